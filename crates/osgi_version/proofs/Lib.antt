@@ -1,0 +1,5 @@
+mod VersionProgress
+pub mod VersionPlaces
+mod VersionRuns
+mod VersionSpelling
+pub mod VersionViews

@@ -1,0 +1,6 @@
+pub mod Below
+pub mod Entries
+pub mod Kids
+pub mod Made
+pub mod Maps
+pub mod Paths

@@ -1,0 +1,10 @@
+pub mod Cause
+pub mod Folder
+pub mod Formed
+pub mod Name
+pub mod Node
+pub mod Path
+pub mod Plain
+pub mod Step
+pub mod Stream
+pub mod Tree

@@ -1,0 +1,5 @@
+pub mod Lines
+pub mod Request
+pub mod Root
+pub mod Slash
+pub mod Status

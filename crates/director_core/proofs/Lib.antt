@@ -1,0 +1,12 @@
+pub mod Commands
+pub mod Decisions
+pub mod Endings
+pub mod Gives
+pub mod Keys
+pub mod Lengths
+pub mod Maps
+pub mod Names
+pub mod Roots
+pub mod Sources
+pub mod Steps
+pub mod Texts

@@ -1,0 +1,104 @@
+-- Which answer an install has, and what it leaves: by the words, the folder and the source, in the order in which
+-- they are read.
+use Rattle.std.specs.Prelude.{◌≡◌, ℕ, List, [], ◌∷◌, Option, Some, None, IsSome, ⊤, ◌⊎◌}
+use Rattle.folder_core.specs.Folder.{Map}
+use Rattle.folder_core.specs.Tree.{Files}
+use Rattle.folder_core.specs.declared.node.After.TheVariants.{Unchanged, Recover, Either}
+use Rattle.unit_model.specs.declared.name.UnitName.{UnitName}
+use Rattle.director_words.specs.Request.{Asks}
+use Rattle.director_words.specs.declared.request.Request.{Request}
+use Rattle.director_words.specs.declared.request.Request.TheVariants.{Install}
+use Rattle.director_words.specs.declared.status.Status.{Status}
+use Rattle.director_words.specs.declared.status.Status.TheVariants.{Done, NotBuilt, Usage, Unknown, FolderFault, SourceFault, SinkFault, NoMemory}
+use Rattle.director_core.specs.FirstInstall.{first_touches}
+use Rattle.director_core.specs.Laid.{IsBare, bare, laid}
+use Rattle.director_core.specs.Named.{Names, NamesNone}
+use Rattle.director_core.specs.Source.{IsBeyond, Gives}
+
+-- The words denote a request.
+abbrev pub IsAsked : List (List ℕ) → Type 0
+IsAsked words = (request : Request) × Asks words request
+
+-- The words ask to install one root, named by this word, into the profile.
+abbrev pub AsksFor : List (List ℕ) → List ℕ → List ℕ → Type 0
+AsksFor words profile word = Asks words (Install profile 10000 (word ∷ []))
+
+abbrev pub HasChild : Map → Type 0
+HasChild m = (name : List ℕ) × IsSome (m (name ∷ []))
+
+-- The unit of this name is to be installed into the profile.
+pub record Installs (words : List (List ℕ)) (m : Map) (files : Files) (profile : List ℕ) (name : UnitName) : Type 0 where
+  pub word : List ℕ
+  pub asks : AsksFor words profile word
+  pub is_bare : IsBare m
+  pub gives : Gives files (Some name)
+  pub names : Names word name
+
+abbrev pub CanInstall : List (List ℕ) → Map → Files → Type 0
+CanInstall words m files = (profile : List ℕ) × (name : UnitName) × Installs words m files profile name
+
+-- The request wants more than is built: a folder that isn't empty, or a source of more than one plain description.
+abbrev pub WantsMore : List (List ℕ) → Map → Files → Type 0
+WantsMore words m files = IsAsked words × (HasChild m ⊎ (IsBare m × IsBeyond files))
+
+-- The word names no unit of the source.
+abbrev pub NamesUnknown : List (List ℕ) → Map → Files → List ℕ → Type 0
+NamesUnknown words m files word =
+    (profile : List ℕ) × (unit : Option UnitName) × AsksFor words profile word × IsBare m × Gives files unit × NamesNone word unit
+
+-- Why this answer comes. A fault and want of memory have their causes elsewhere; they say how far the command was.
+abbrev pub IsAnswer : List (List ℕ) → Map → Files → Status → Type 0
+IsAnswer words m files Done = CanInstall words m files
+IsAnswer words m files NotBuilt = WantsMore words m files
+IsAnswer words m files Usage = ¬ (IsAsked words)
+IsAnswer words m files (Unknown word) = NamesUnknown words m files word
+IsAnswer words m files (FolderFault Unchanged) = IsAsked words
+IsAnswer words m files (FolderFault Recover) = CanInstall words m files
+IsAnswer words m files (FolderFault Either) = ⊥
+IsAnswer words m files SourceFault = IsAsked words × IsBare m
+IsAnswer words m files (SinkFault None) = ⊤
+IsAnswer words m files (SinkFault (Some number)) = (number ≡ 1) × CanInstall words m files
+IsAnswer words m files (NoMemory Unchanged) = ⊤
+IsAnswer words m files (NoMemory Recover) = CanInstall words m files
+IsAnswer words m files (NoMemory Either) = ⊥
+
+-- what a command answers where nothing of the outside fails and memory is there
+abbrev pub IsPlainAnswer : Status → Type 0
+IsPlainAnswer Done = ⊤
+IsPlainAnswer NotBuilt = ⊤
+IsPlainAnswer Usage = ⊤
+IsPlainAnswer (Unknown word) = ⊤
+IsPlainAnswer (FolderFault after) = ⊥
+IsPlainAnswer SourceFault = ⊥
+IsPlainAnswer (SinkFault committed) = ⊥
+IsPlainAnswer (NoMemory after) = ⊥
+
+-- The answer is the one, or a fault or want of memory came before it.
+abbrev pub IsAnswerOrFault : Status → Status → Type 0
+IsAnswerOrFault answer status = (status ≡ answer) ⊎ (IsPlainAnswer status → ⊥)
+
+-- Words that denote no request are answered so, whatever the outside tells.
+abbrev pub IsUsageOrFault : Status → Type 0
+IsUsageOrFault status = (status ≡ Usage) ⊎ (status ≡ SinkFault None) ⊎ (status ≡ NoMemory Unchanged)
+
+-- The folder holds the first install, and nothing else.
+abbrev pub HasInstalled : List (List ℕ) → Map → Files → Map → Type 0
+HasInstalled words old files new =
+    (profile : List ℕ) × (name : UnitName) × Installs words old files profile name × (new ≡ laid (first_touches profile name) bare)
+
+-- what the folder holds then
+abbrev pub Leaves : List (List ℕ) → Map → Files → Status → Map → Type 0
+Leaves words old files Done new = HasInstalled words old files new
+Leaves words old files (SinkFault (Some number)) new = HasInstalled words old files new
+-- a recovery has to follow
+Leaves words old files (FolderFault Recover) new = ⊤
+Leaves words old files (NoMemory Recover) new = ⊤
+Leaves words old files (FolderFault Unchanged) new = new ≡ old
+Leaves words old files (FolderFault Either) new = ⊥
+Leaves words old files (NoMemory Unchanged) new = new ≡ old
+Leaves words old files (NoMemory Either) new = ⊥
+Leaves words old files NotBuilt new = new ≡ old
+Leaves words old files Usage new = new ≡ old
+Leaves words old files (Unknown word) new = new ≡ old
+Leaves words old files SourceFault new = new ≡ old
+Leaves words old files (SinkFault None) new = new ≡ old

@@ -1,0 +1,17 @@
+pub mod Answer
+pub mod Description
+pub mod FirstInstall
+pub mod Laid
+pub mod Named
+pub mod Printed
+pub mod Source
+pub mod StateText
+pub mod Writes
+pub mod KeyLines
+pub mod SourceStop
+pub mod StateLines
+pub mod Stops
+pub mod Performs
+pub mod Refuses
+pub mod Causes
+pub mod Durable

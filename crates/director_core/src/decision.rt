@@ -1,0 +1,120 @@
+ghost use Rattle.std.specs.Prelude.{◌≡◌, ◌≤◌, List, Some, IfOk, IfErr, OnOk, Err};
+ghost use Rattle.unit_model.specs.Profile.{IsProfile};
+ghost use Rattle.folder_core.specs.Cause.{Rose};
+ghost use Rattle.folder_core.specs.Step.{OnTold, Step};
+ghost use Rattle.director_words.specs.Root.{IsRootWord};
+ghost use Rattle.director_words.specs.declared.status.Status.TheVariants as status;
+ghost use Rattle.director_core.specs.Answer.{IsAsked, AsksFor, HasChild, Installs, IsAnswer};
+ghost use Rattle.director_core.specs.Description.{IsUnitName};
+ghost use Rattle.director_core.specs.Laid.{IsBare};
+ghost use Rattle.director_core.specs.Named.{Names, NamesNone};
+ghost use Rattle.director_core.specs.Stops.{Stops};
+
+use crate::look_up::names;
+use crate::source::read_source;
+use director_words::{Request, RequestFault, Status, read_request};
+use folder_core::{After, Folder, FolderError, Path, Tree};
+use osgi_version::Text;
+use std::alloc::Global;
+use unit_model::UnitName;
+
+/// What an install is to do: the unit of this name is to come to the profile.
+#[derive(Debug, Drop)]
+pub(crate) struct Plan {
+    pub profile: Text,
+    pub name: UnitName,
+}
+
+/// A profile, and the word that names the unit.
+#[derive(Debug, Drop)]
+pub(crate) struct Asked {
+    pub profile: Text,
+    pub word: Text,
+}
+
+/// What the words, the folder and the source ask for, looked at in this order. Nothing is changed.
+pub(crate) fn decide<F: Folder, T: Tree>(
+    alloc: Global,
+    words: &[Text],
+    folder: &mut F,
+    source: &mut T,
+) -> Result<Plan, Status>
+    ensures form { IfOk result (λ plan. IsProfile plan.profile × IsUnitName plan.name) }
+    ensures asked { IfOk result (λ plan. IsAsked words.now) }
+    ensures found { IfOk result (λ plan. OnTold (F.told folder.old) (λ s. OnTold (T.told source.old)
+        (λ files. Installs words.now s.now files plan.profile plan.name))) }
+    ensures bare { IfOk result (λ plan. OnTold (F.told folder.new) (λ s. IsBare s.now)) }
+    ensures refused { IfErr result (λ s. Stops (¬ (IsAsked words.now)) (IsAsked words.now)
+        (IsAsked words.now × Rose (F.faults folder.old) (F.faults folder.new))
+        (IsAsked words.now × Rose (T.faults source.old) (T.faults source.new)) (λ word. IsAsked words.now) s) }
+    ensures answer { IfErr result (λ s. OnTold (F.told folder.old) (λ t. OnTold (T.told source.old)
+        (λ files. IsAnswer words.now t.now files s))) }
+    ensures stays { Step (F.told folder.old) (F.told folder.new) (λ s t. t.now ≡ s.now) }
+    ensures tree { T.told source.new ≡ T.told source.old }
+    ensures later_folder { F.faults folder.old ≤ F.faults folder.new }
+    ensures later_source { T.faults source.old ≤ T.faults source.new }
+{
+    let asked = read_words(alloc, words)?;
+    check_bare(alloc, folder)?;
+    let unit = read_source(alloc, source)?;
+    let name = look_up(alloc, asked.word, unit)?;
+    Ok(Plan {
+        profile: asked.profile,
+        name,
+    })
+}
+
+fn read_words(alloc: Global, words: &[Text]) -> Result<Asked, Status>
+    ensures found { IfOk result (λ asked. AsksFor words.now asked.profile asked.word) }
+    ensures refused { IfErr result (Stops (¬ (IsAsked words.now)) ⊥ ⊥ ⊥ (λ word. ⊥)) }
+{
+    let Request::Install {
+        profile,
+        budget: _,
+        roots,
+    } = match read_request(alloc, words) {
+        Ok(request) => request,
+        Err(RequestFault::Usage) => return Err(Status::Usage),
+        Err(RequestFault::NoMemory) => return Err(Status::NoMemory(After::Unchanged)),
+    };
+    match roots.into_vec().pop() {
+        Some(word) => Ok(Asked { profile, word }),
+        None => unreachable!(),
+    }
+}
+
+/// A folder that isn't empty is `NotBuilt`.
+fn check_bare<F: Folder>(alloc: Global, folder: &mut F) -> Result<(), Status>
+    ensures bare { OnOk result (OnTold (F.told folder.old) (λ s. IsBare s.now)) }
+    ensures refused { IfErr result (Stops ⊥ (OnTold (F.told folder.old) (λ s. HasChild s.now))
+        (Rose (F.faults folder.old) (F.faults folder.new)) ⊥ (λ word. ⊥)) }
+    ensures stays { Step (F.told folder.old) (F.told folder.new) (λ s t. t.now ≡ s.now) }
+    ensures later { F.faults folder.old ≤ F.faults folder.new }
+{
+    let names = match folder.kids(alloc, &Path::root(alloc)) {
+        Ok(names) => names,
+        Err(FolderError::Failed) => return Err(Status::FolderFault(After::Unchanged)),
+        Err(FolderError::NoMemory) => return Err(Status::NoMemory(After::Unchanged)),
+    };
+    if names.is_empty() {
+        Ok(())
+    } else {
+        Err(Status::NotBuilt)
+    }
+}
+
+/// The unit that the word names. `Unknown` holds the word where it names none.
+fn look_up(alloc: Global, word: Text, unit: Option<UnitName>) -> Result<UnitName, Status>
+    requires { IsRootWord word }
+    ensures found { IfOk result (λ name. (unit ≡ Some name) × Names word name) }
+    ensures refused { IfErr result (Stops ⊥ ⊥ ⊥ ⊥ (λ named. (named ≡ word) × NamesNone word unit)) }
+{
+    let Some(name) = unit else {
+        return Err(Status::Unknown(word));
+    };
+    if names(alloc, &word, &name)? {
+        Ok(name)
+    } else {
+        Err(Status::Unknown(word))
+    }
+}

@@ -1,0 +1,71 @@
+ghost use Rattle.std.specs.Prelude.{◌≡◌, ◌≤◌, [], List, ℕ};
+ghost use Rattle.folder_core.specs.Cause.{Rose};
+ghost use Rattle.folder_core.specs.Step.{Step};
+ghost use Rattle.director_words.specs.Status.{short_line_of, lines_of};
+ghost use Rattle.director_words.specs.declared.status.Status.TheVariants as status_of;
+ghost use Rattle.director_core.specs.Performs.{Adds};
+ghost use Rattle.director_core.specs.Printed.{IsFront};
+ghost use Rattle.director_core.specs.Refuses.{Ends, EndsOrFails, WritesRefusal, WritesOrFails};
+
+use crate::writing::write_all;
+use director_words::{Status, lines, short_line};
+use folder_core::{After, Sink};
+use osgi_version::Text;
+use std::alloc::Global;
+
+/// Writes the lines of a refusal, and answers how the command ends. Where the sink fails on them that is its
+/// fault, except that a fault of the folder and want of memory stay.
+pub(crate) fn refuse<K: Sink>(alloc: Global, out: &mut K, status: Status) -> Status
+    ensures ends { Ends status result (Rose (K.faults out.old) (K.faults out.new)) }
+    ensures prints { Step (K.told out.old) (K.told out.new) (Adds (WritesRefusal status result)) }
+    ensures later { K.faults out.old ≤ K.faults out.new }
+{
+    match status {
+        Status::Done => Status::Done,
+        Status::NotBuilt => refuse_shortly(out, Status::NotBuilt),
+        Status::Usage => refuse_shortly(out, Status::Usage),
+        Status::Unknown(word) => refuse_unknown(alloc, out, word),
+        Status::FolderFault(after) => report(out, Status::FolderFault(after)),
+        Status::SourceFault => refuse_shortly(out, Status::SourceFault),
+        Status::SinkFault { committed } => Status::SinkFault { committed },
+        Status::NoMemory(after) => report(out, Status::NoMemory(after)),
+    }
+}
+
+fn refuse_unknown<K: Sink>(alloc: Global, out: &mut K, word: Text) -> Status
+    ensures ends { Ends (status_of.Unknown word) result (Rose (K.faults out.old) (K.faults out.new)) }
+    ensures prints { Step (K.told out.old) (K.told out.new) (Adds (WritesRefusal (status_of.Unknown word) result)) }
+    ensures later { K.faults out.old ≤ K.faults out.new }
+{
+    let status = Status::Unknown(word);
+    match lines(alloc, &status) {
+        Ok(lines) => match write_all(out, lines.items()) {
+            Ok(()) => status,
+            Err(_) => Status::SinkFault { committed: None },
+        },
+        Err(_) => report(out, Status::NoMemory(After::Unchanged)),
+    }
+}
+
+/// A refusal that has a short line alone.
+fn refuse_shortly<K: Sink>(out: &mut K, status: Status) -> Status
+    requires { lines_of status ≡ [] }
+    ensures ends { EndsOrFails status result (Rose (K.faults out.old) (K.faults out.new)) }
+    ensures prints { Step (K.told out.old) (K.told out.new) (Adds (WritesOrFails status result)) }
+    ensures later { K.faults out.old ≤ K.faults out.new }
+{
+    match write_all(out, short_line(&status)) {
+        Ok(()) => status,
+        Err(_) => Status::SinkFault { committed: None },
+    }
+}
+
+/// A status that stays, whether its line is written or not.
+fn report<K: Sink>(out: &mut K, status: Status) -> Status
+    ensures stays { result ≡ status }
+    ensures prints { Step (K.told out.old) (K.told out.new) (Adds (λ line. IsFront line (short_line_of status))) }
+    ensures later { K.faults out.old ≤ K.faults out.new }
+{
+    let _ = write_all(out, short_line(&status));
+    status
+}

@@ -1,0 +1,197 @@
+ghost use Rattle.std.specs.Prelude.{◌≡◌, ◌≤◌, ◌↔◌, length, None, IfOk, IfSome, IsTrue};
+ghost use Rattle.folder_core.specs.Name.{AreRising};
+ghost use Rattle.folder_core.specs.Node.{IsNode, IsSmallAt, entries_path};
+ghost use Rattle.folder_core.specs.Path.{IsBelow};
+
+use crate::faults::{Faults, HostFault};
+use crate::host_place::{below, find};
+use crate::host_read::{read_file, read_names};
+use crate::host_write::{make_root, put};
+use folder_core::{Failed, Folder, FolderError, Name, Node, Path};
+use osgi_version::{List, Text};
+use std::alloc::Global;
+use std::fs::{Files, Metadata};
+use std::os::unix::fs::PermissionsExt;
+
+const MOST_FILE_BYTES: u64 = 67_108_864;
+
+const MOST_ENTRY_BYTES: u64 = 67_174_400;
+
+const MOST_TARGET_BYTES: usize = 4096;
+
+const PERMISSION_BITS: u32 = 0o777;
+
+/// A folder of the host: what stands at its root and below.
+///
+/// A root that isn't there reads as an empty directory, and the first `set` makes it, with what is missing above it. The
+/// root itself may be a link to a directory. No other link is followed: below a link there is nothing.
+///
+/// Each error of the host is a fault, but for want of memory before the first change. So are a name that is no `Name`, a
+/// special file, a file that is longer than its path allows, a link whose target isn't UTF-8, a root where another node
+/// stands, and a root with no text. The host makes no link with an empty target, and reads a file only where its mode
+/// lets this user.
+#[derive(Drop)]
+pub struct HostFolder<R> {
+    runtime: R,
+    root: String,
+    faults: Faults,
+}
+
+impl<R: Files + AllocGlobal + Clone + Drop> HostFolder<R> {
+    pub fn new(runtime: R, root: String) -> HostFolder<R>
+        ensures { ⟦<HostFolder<R> as Folder>⟧.faults result ≡ 0 }
+    {
+        HostFolder {
+            runtime,
+            root,
+            faults: Faults::new(),
+        }
+    }
+}
+
+impl<R: Files + AllocGlobal + Clone + Drop> Folder for HostFolder<R> {
+    ghost told = { λ _. None };
+
+    ghost faults = { λ f. f.faults };
+
+    ghost formed = { λ _. tt };
+
+    fn look(&mut self, alloc: Global, path: &Path) -> Result<Option<Node>, FolderError> {
+        let outcome = look_at(&self.runtime, alloc, self.root.as_str(), path);
+        Ok(self.faults.counted(outcome)?)
+    }
+
+    fn kids(&mut self, alloc: Global, path: &Path) -> Result<List<Name>, FolderError> {
+        let outcome = kids_at(&self.runtime, alloc, self.root.as_str(), path);
+        Ok(self.faults.counted(outcome)?)
+    }
+
+    /// Answers Ok once the node is on the disk, and its name in the directory that holds it: each is synced in turn.
+    /// What stood there is taken away first.
+    fn set(&mut self, path: &Path, node: Option<&Node>) -> Result<(), FolderError> {
+        let outcome = set_at(&self.runtime, self.root.as_str(), path, node);
+        Ok(self.faults.counted(outcome)?)
+    }
+
+    /// Has nothing left to do.
+    fn sync(&mut self) -> Result<(), Failed> {
+        Ok(())
+    }
+}
+
+fn look_at<R: Files>(
+    files: &R,
+    alloc: Global,
+    root: &str,
+    path: &Path,
+) -> Result<Option<Node>, HostFault>
+    ensures node { IfOk result (λ found. IfSome found IsNode) }
+    ensures small { IfOk result (λ found. IfSome found (IsSmallAt path.now)) }
+{
+    let names = path.names().items();
+    let place = find(files, alloc, root, names)?;
+    let Some(found) = &place.found else {
+        return Ok(names.is_empty().then_some(Node::Dir));
+    };
+    if found.is_dir() {
+        return Ok(Some(Node::Dir));
+    }
+    if found.is_symlink() {
+        let target = read_target(files, alloc, place.text.as_str())?;
+        return Ok(Some(Node::Link { target }));
+    }
+    if !found.is_file() {
+        return Err(HostFault::Failed);
+    }
+    Ok(Some(read_node(files, alloc, place.text.as_str(), found, path)?))
+}
+
+fn read_node<R: Files>(
+    files: &R,
+    alloc: Global,
+    text: &str,
+    found: &Metadata,
+    path: &Path,
+) -> Result<Node, HostFault>
+    ensures node { IfOk result IsNode }
+    ensures small { IfOk result (IsSmallAt path.now) }
+{
+    let mode = (found.permissions().mode() & PERMISSION_BITS) as u16;
+    match read_file(files, alloc, text, most_bytes(path))? {
+        Some(blob) => Ok(Node::File { mode, blob }),
+        None => Err(HostFault::Failed),
+    }
+}
+
+fn read_target<R: Files>(files: &R, alloc: Global, text: &str) -> Result<Text, HostFault>
+    ensures { IfOk result (λ target. length target ≤ 4096) }
+{
+    let target = files.read_link(alloc, text)?;
+    let target = Text::from_str(alloc, target.as_str())?;
+    if target.bytes().len() > MOST_TARGET_BYTES {
+        return Err(HostFault::Failed);
+    }
+    Ok(target)
+}
+
+fn most_bytes(path: &Path) -> u64
+    ensures entry { IsBelow entries_path path.now → result ≡ 67174400 }
+    ensures other { ¬ (IsBelow entries_path path.now) → result ≡ 67108864 }
+{
+    if is_entry(path) {
+        MOST_ENTRY_BYTES
+    } else {
+        MOST_FILE_BYTES
+    }
+}
+
+/// The path is below `.p2/e`, where the entries of the journal stand.
+fn is_entry(path: &Path) -> bool
+    ensures { IsTrue result ↔ IsBelow entries_path path.now }
+{
+    match path.names().items() {
+        [first, second, _, ..] => {
+            first.text().as_str() == ".p2" && second.text().as_str() == "e"
+        }
+        _ => false,
+    }
+}
+
+fn kids_at<R: Files + AllocGlobal + Clone + Drop>(
+    runtime: &R,
+    alloc: Global,
+    root: &str,
+    path: &Path,
+) -> Result<List<Name>, HostFault>
+    ensures { IfOk result AreRising }
+{
+    let place = find(runtime, alloc, root, path.names().items())?;
+    if place.is_directory() {
+        read_names(runtime, alloc, place.text.as_str())
+    } else {
+        Ok(List::new(alloc))
+    }
+}
+
+fn set_at<R: Files + AllocGlobal>(
+    runtime: &R,
+    root: &str,
+    path: &Path,
+    node: Option<&Node>,
+) -> Result<(), HostFault> {
+    let Some((name, holders)) = path.names().items().split_last() else {
+        return Err(HostFault::Failed);
+    };
+    make_root(runtime, root)?;
+    let alloc = runtime.alloc();
+    let holder = find(runtime, alloc, root, holders)?;
+    if !holder.is_directory() {
+        return Err(HostFault::Failed);
+    }
+    let text = below(alloc, holder.text.as_str(), name)?;
+    // From here on the host may have changed something, so that no error is a want of memory.
+    match put(runtime, holder.text.as_str(), text.as_str(), node) {
+        Ok(()) => Ok(()),
+        Err(_) => Err(HostFault::Failed),
+    }
+}

@@ -1,0 +1,9 @@
+pub mod Characters
+pub mod Entries
+pub mod Gives
+pub mod KeyAndValue
+pub mod LogicalLines
+pub mod NaturalLines
+pub mod PairsOf
+pub mod PairsSeen
+pub mod Signs

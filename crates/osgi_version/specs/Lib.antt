@@ -5,3 +5,4 @@ pub mod VersionOrder
 pub mod VersionReading
 pub mod VersionSteps
 pub mod VersionText
+pub mod formers

@@ -9,3 +9,4 @@ pub mod VersionOrder
 pub mod VersionReading
 pub mod VersionSteps
 pub mod VersionText
+pub mod formers

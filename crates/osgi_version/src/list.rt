@@ -30,6 +30,11 @@ impl<T> List<T> {
         }
     }
 
+    /// The allocator that the list was made with.
+    pub fn allocator(&self) -> Global {
+        *self.items.allocator()
+    }
+
     /// Adds an item at the end. An `Err` changes nothing.
     pub fn push(&mut self, item: T) -> Result<(), NoMemory>
     where

@@ -75,6 +75,11 @@ impl Text {
         Ok(Text { inner })
     }
 
+    /// The allocator that the text was made with.
+    pub fn allocator(&self) -> Global {
+        *self.inner.allocator()
+    }
+
     pub fn bytes(&self) -> &[u8]
         ensures value { result.now ≡ self.now }
         ensures utf8 { IsUtf8 self.now }

@@ -1,4 +1,5 @@
 use super::*;
+use ldap_filter::{Filter, Test};
 use osgi_version::{List, NoMemory, Range, Text, Twin, Version};
 use std::alloc::Global;
 use std::test::Fail;
@@ -94,25 +95,126 @@ fn capability(alloc: Global) -> Result<Provided, NoMemory> {
     })
 }
 
-fn unit(alloc: Global) -> Result<Unit, NoMemory> {
-    let mut provided = List::new(alloc);
-    provided.push(capability(alloc)?)?;
-    let name = name(alloc)?;
-    let update = update(alloc)?;
-    Ok(Unit {
+fn filter(alloc: Global) -> Result<Filter, NoMemory> {
+    let attr = text(alloc, "osgi.os")?;
+    let test = Test::Equal(one(alloc, text(alloc, "linux")?)?);
+    Ok(Filter::Item { attr, test })
+}
+
+fn required(alloc: Global) -> Result<Required, NoMemory> {
+    let namespace = text(alloc, "n")?;
+    let name = text(alloc, "cap")?;
+    let range = update(alloc)?.range;
+    Ok(Required {
+        namespace,
         name,
-        update,
-        provided,
+        range,
+        filter: Some(filter(alloc)?),
+        min: 1,
+        max: 2,
+        greedy: true,
+    })
+}
+
+fn one<T: Drop>(alloc: Global, item: T) -> Result<List<T>, NoMemory> {
+    let mut list = List::new(alloc);
+    list.push(item)?;
+    Ok(list)
+}
+
+fn artifact(alloc: Global) -> Result<ArtifactKey, NoMemory> {
+    Ok(ArtifactKey {
+        classifier: text(alloc, "bin")?,
+        id: text(alloc, "tool")?,
+        version: version(alloc, 1)?,
+    })
+}
+
+fn phase(alloc: Global) -> Result<PhaseText, NoMemory> {
+    Ok(PhaseText {
+        phase: Phase::Install,
+        imports: text(alloc, "")?,
+        text: text(alloc, "mkdir(path:a);")?,
+    })
+}
+
+fn touchpoint(alloc: Global) -> Result<Touchpoint, NoMemory> {
+    Ok(Touchpoint {
+        id: text(alloc, "native")?,
+        version: version(alloc, 1)?,
+    })
+}
+
+fn property(alloc: Global) -> Result<Property, NoMemory> {
+    Ok(Property {
+        name: text(alloc, "vendor")?,
+        value: text(alloc, "us")?,
+    })
+}
+
+fn unit(alloc: Global) -> Result<Unit, NoMemory> {
+    Ok(Unit {
+        name: name(alloc)?,
+        singleton: true,
+        filter: Some(filter(alloc)?),
+        update: update(alloc)?,
+        touchpoint: Some(touchpoint(alloc)?),
+        properties: one(alloc, property(alloc)?)?,
+        provided: one(alloc, capability(alloc)?)?,
+        required: one(alloc, required(alloc)?)?,
+        artifacts: one(alloc, artifact(alloc)?)?,
+        phases: one(alloc, phase(alloc)?)?,
     })
 }
 
 #[test]
 fn a_copied_unit_is_equal(rt: HostRuntime) -> Result<(), Fail> {
     let unit = unit(rt.alloc())?;
-    let copied = unit.copy()?;
-    assert_eq!(rt; copied.provided.len(), 1);
-    assert_eq!(rt; copied.update.severity, 3);
+    let mut copied = unit.copy()?;
     assert!(rt; copied == unit);
+    copied.singleton = false;
+    assert!(rt; copied != unit);
+    Ok(())
+}
+
+#[test]
+fn a_copied_note_is_equal(rt: HostRuntime) -> Result<(), Fail> {
+    let alloc = rt.alloc();
+    let note = Note {
+        unit: name(alloc)?,
+        source: text(alloc, "bin/tool")?,
+        target: text(alloc, "installs/ide/d")?,
+        paths: one(alloc, text(alloc, "installs/ide/d/f")?)?,
+    };
+    let mut copied = note.copy()?;
+    assert!(rt; copied == note);
+    copied.paths.push(text(alloc, "installs/ide/d/g")?)?;
+    assert!(rt; copied != note);
+    Ok(())
+}
+
+#[test]
+fn a_copied_judgement_is_equal(rt: HostRuntime) -> Result<(), Fail> {
+    let alloc = rt.alloc();
+    let judgements = [
+        Judgement::Good,
+        Judgement::Root(name(alloc)?),
+        Judgement::Applies(name(alloc)?),
+        Judgement::Requirement {
+            unit: name(alloc)?,
+            row: 2,
+        },
+        Judgement::Singleton {
+            first: name(alloc)?,
+            second: name(alloc)?,
+        },
+        Judgement::Unrooted(name(alloc)?),
+    ];
+    for (place, judgement) in judgements.iter().enumerate() {
+        for (other_place, other) in judgements.iter().enumerate() {
+            assert_eq!(rt; judgement.copy()? == *other, place == other_place);
+        }
+    }
     Ok(())
 }
 

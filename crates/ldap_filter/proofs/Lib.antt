@@ -1,0 +1,3 @@
+pub mod EnvLemmas
+pub mod Folds
+pub mod SameLength

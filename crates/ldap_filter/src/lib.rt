@@ -1,0 +1,10 @@
+//! LDAP filters (RFC 1960, as OSGi Core takes them, "Filter Syntax"), and the environments that they are tested in.
+#![tactic(auto)]
+
+mod env;
+mod filter;
+mod test;
+
+pub use env::Env;
+pub use filter::Filter;
+pub use test::Test;

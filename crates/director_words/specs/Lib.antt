@@ -1,5 +1,10 @@
+pub mod Command
+pub mod Key
 pub mod Lines
+pub mod Number
+pub mod Pair
 pub mod Request
 pub mod Root
 pub mod Slash
 pub mod Status
+pub mod Values

@@ -1,6 +1,6 @@
 use super::*;
 use folder_core::After;
-use osgi_version::{NoMemory, Text, Version};
+use osgi_version::{List, NoMemory, Text, Twin, Version};
 use std::alloc::Global;
 use std::test::Fail;
 use unit_model::UnitName;
@@ -13,67 +13,192 @@ fn words_of(alloc: Global, line: &str) -> Result<Vec<Text>, NoMemory> {
     Ok(words)
 }
 
-/// Whether the words of a line ask to install this root into this profile, with the budget where none is named.
-fn asks(alloc: Global, line: &str, profile: &str, root: &str) -> Result<bool, Fail> {
+/// A request as one text: its command, its profile, its budget or number, and its words.
+fn told(alloc: Global, request: &Request) -> Result<String, Fail> {
+    Ok(match request {
+        Request::Install {
+            profile,
+            budget,
+            roots,
+        } => planned(alloc, "install", profile, *budget, roots)?,
+        Request::Remove {
+            profile,
+            budget,
+            roots,
+        } => planned(alloc, "remove", profile, *budget, roots)?,
+        Request::Update {
+            profile,
+            budget,
+            roots,
+        } => planned(alloc, "update", profile, *budget, roots)?,
+        Request::SetEnv {
+            profile,
+            budget,
+            pairs,
+        } => planned(alloc, "set", profile, *budget, pairs)?,
+        Request::Revert { profile, number } => {
+            let profile = profile.as_str();
+            format!(in alloc; "revert {profile} {number}")?
+        }
+        Request::Show { profile } => {
+            let profile = profile.as_str();
+            format!(in alloc; "list {profile}")?
+        }
+        Request::History { profile } => {
+            let profile = profile.as_str();
+            format!(in alloc; "history {profile}")?
+        }
+        Request::Verify => String::from_str(alloc, "verify")?,
+        Request::Recover => String::from_str(alloc, "recover")?,
+        Request::Check => String::from_str(alloc, "check")?,
+        Request::Script => String::from_str(alloc, "script")?,
+        Request::Trial { size } => format!(in alloc; "trial {size}")?,
+    })
+}
+
+fn planned(
+    alloc: Global,
+    command: &str,
+    profile: &Text,
+    budget: u32,
+    words: &List<Text>,
+) -> Result<String, Fail> {
+    let profile = profile.as_str();
+    let mut line = format!(in alloc; "{command} {profile} {budget}")?;
+    for word in words.items() {
+        line.push_str(" ")?;
+        line.push_str(word.as_str())?;
+    }
+    Ok(line)
+}
+
+/// Whether the words of a line ask for this, and a copy of the request too.
+fn asks(alloc: Global, line: &str, wanted: &str) -> Result<bool, Fail> {
     let words = words_of(alloc, line)?;
     let request = read_request(alloc, words.as_slice())?;
-    let Request::Install {
-        profile: named,
-        budget,
-        roots,
-    } = &request;
-    Ok(
-        named.as_str() == profile
-            && *budget == 10_000
-            && matches!(roots.items(), [word] if word.as_str() == root),
-    )
+    let copied = request.copy()?;
+    let text = told(alloc, &request)?;
+    Ok(text.as_str() == wanted && copied == request)
 }
 
 #[test]
 fn words_that_denote_a_request(rt: HostRuntime) -> Result<(), Fail> {
-    for (line, profile, root) in [
-        ("install -p ide a", "ide", "a"),
+    for (line, wanted) in [
+        ("install -p ide a", "install ide 10000 a"),
         (
             "install -p A_b-9 org.example.b1/1.0.0",
-            "A_b-9",
-            "org.example.b1/1.0.0",
+            "install A_b-9 10000 org.example.b1/1.0.0",
         ),
-        ("install -p ide a%b/1", "ide", "a%b/1"),
+        ("install -p ide a%b/1 c", "install ide 10000 a%b/1 c"),
+        ("install a -p ide b", "install ide 10000 a b"),
+        ("install -pide a", "install ide 10000 a"),
+        ("install --profile ide a", "install ide 10000 a"),
+        ("install --profile=ide a", "install ide 10000 a"),
+        ("install -p ide -- a", "install ide 10000 a"),
+        ("install -p ide -- -a", "install ide 10000 -a"),
+        ("install -p ide -b 1 a", "install ide 1 a"),
+        ("install -b50000 a -p ide", "install ide 50000 a"),
+        ("install --budget=77 -p ide a", "install ide 77 a"),
+        ("remove -p ide a/1.0.0.x b", "remove ide 10000 a/1.0.0.x b"),
+        ("update -p ide", "update ide 10000"),
+        ("update -p ide -b 5 a", "update ide 5 a"),
+        ("set -p ide k=v", "set ide 10000 k=v"),
+        ("set -p ide k= a=b=c", "set ide 10000 k= a=b=c"),
+        ("revert -p ide 0", "revert ide 0"),
+        ("revert 4294967295 -p ide", "revert ide 4294967295"),
+        ("list -p ide", "list ide"),
+        ("history --profile=ide", "history ide"),
+        ("verify", "verify"),
+        ("recover", "recover"),
+        ("check", "check"),
+        ("script", "script"),
+        ("trial 1", "trial 1"),
+        ("trial -- 4096", "trial 4096"),
     ] {
-        assert!(rt; asks(rt.alloc(), line, profile, root)?, "of {line}");
+        assert!(rt; asks(rt.alloc(), line, wanted)?, "of {line}");
     }
     Ok(())
 }
 
-fn is_usage(alloc: Global, line: &str) -> Result<bool, Fail> {
-    let words = words_of(alloc, line)?;
-    Ok(matches!(
-        read_request(alloc, words.as_slice()),
-        Err(RequestFault::Usage)
-    ))
+fn is_usage(alloc: Global, words: &[Text]) -> bool {
+    matches!(read_request(alloc, words), Err(RequestFault::Usage))
 }
 
 #[test]
 fn words_that_denote_none(rt: HostRuntime) -> Result<(), Fail> {
+    assert!(rt; is_usage(rt.alloc(), &[]), "of no word");
     for line in [
+        // No command of this name.
         "",
-        "install",
-        "install -p ide",
-        "install -p ide a b",
-        "install a -p ide",
+        "ide",
         "Install -p ide a",
+        "installs -p ide a",
+        "-p ide install a",
+        "help",
+        "--help",
+        // Flags and values that the command doesn't take, or lacks.
+        "install",
+        "install --help",
+        "install -V",
+        "install a",
+        "install -p ide",
+        "install -p",
         "install -P ide a",
+        "install --prof ide a",
+        "install -p ide -x a",
+        "install -p ide -p ide a",
+        "install -p ide -pjdk a",
+        "install -p ide -b 1 -b 1 a",
+        "install -p ide a -b",
+        "remove -p ide",
+        "set -p ide",
+        "revert -p ide",
+        "revert -p ide 1 2",
+        "revert -p ide -b 5 1",
+        "revert 1",
+        "list",
+        "list -p ide a",
+        "list -p ide -b 5",
+        "history",
+        "verify a",
+        "verify -p ide",
+        "recover a",
+        "check a",
+        "script -b 1",
+        "trial",
+        "trial 1 2",
+        "trial -p ide 1",
+        // Profiles.
         "install -p  a",
+        "install -p= a",
         "install -p i.e a",
+        // Numbers.
+        "install -p ide -b 0 a",
+        "install -p ide -b 50001 a",
+        "install -p ide -b= a",
+        "install -p ide -b +1 a",
+        "install -p ide -b 01 a",
+        "install -p ide -b -1 a",
+        "install -p ide -b 1x a",
+        "revert -p ide 4294967296",
+        "revert -p ide +1",
+        "revert -p ide 00",
+        "trial 0",
+        "trial 4097",
+        // Roots and pairs.
         "install -p ide ..",
         "install -p ide /1.0.0",
-        "install -p ide a/",
+        "install -p ide a a/",
         "install -p ide a/1.",
         "install -p ide a/1/2",
-        "install -p ide a/raw:1",
-        "remove -p ide a",
+        "remove -p ide a/raw:1",
+        "update -p ide a/",
+        "set -p ide k",
+        "set -p ide =v",
+        "set -p ide k=v kv",
     ] {
-        assert!(rt; is_usage(rt.alloc(), line)?, "of {line:?}");
+        let words = words_of(rt.alloc(), line)?;
+        assert!(rt; is_usage(rt.alloc(), words.as_slice()), "of {line:?}");
     }
     Ok(())
 }

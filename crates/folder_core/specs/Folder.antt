@@ -9,10 +9,13 @@ use Rattle.folder_core.specs.declared.node.Node.TheVariants.{Dir}
 abbrev pub Map : Type 0
 Map = List (List ℕ) → Option Node
 
--- what a folder tells of itself: what stands now, and what stood at its last sync
+-- What a folder tells of itself: what stands now, what stood at its last sync, the paths touched since, and the moment,
+-- a number that never falls.
 pub record Told : Type 0 where
   pub now : Map
   pub synced : Map
+  pub touched : List (List (List ℕ))
+  pub moment : ℕ
 
 -- the map with this node at a path, or with none there
 abbrev pub set_at : Map → List (List ℕ) → Option Node → Map

@@ -1,9 +1,11 @@
 pub mod Cause
+pub mod Crash
 pub mod Folder
 pub mod Formed
 pub mod Name
 pub mod Node
 pub mod Path
+pub mod PathOrder
 pub mod Plain
 pub mod Step
 pub mod Stream

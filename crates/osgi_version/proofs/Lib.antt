@@ -1,3 +1,7 @@
+pub mod RangePlaces
+pub mod Sequences
+mod RangeSpelling
+pub mod VersionOrderLaws
 mod VersionProgress
 pub mod VersionPlaces
 mod VersionRuns

@@ -44,38 +44,41 @@ run-step text at p q inside front stepped =
 
 -- Where a step from a read front isn't there, the front is the longest.
 pub IsLongestBegin-stopped : (text : List ℕ) (at : ℕ) (p : Progress) → at < length text → run (take at text) beginning ≡ Some p → step p (get_or text at 0) ≡ None
-    → ¬ (IsVersionText text) × IsLongestBegin IsVersionText text at
+    → IsLongestBegin IsVersionText text at
 IsLongestBegin-stopped text at p inside front stop =
     let none : run (take (at + 1) text) beginning ≡ None =
     rw (take_more text at 0 inside)
     (run_then (take at text) (get_or text at 0 ∷ []) beginning p None front (ap (option_and_then (run [])) stop)) in
-    let past : ¬ (Begins IsVersionText (take (at + 1) text)) = unread (take (at + 1) text) none in (
-      λ whole. past (shorter (take (at + 1) text) (drop (at + 1) text) (rw (take-append-drop (at + 1) text) ([], (whole.0, rw append-nil whole.1)))),
-      record {
-        within = omega arith;
-        begins = Begins-read (take at text) p front;
-        longest = λ n more fits b.
-            let cut : take (at + 1) (take n text) ≡ take (at + 1) text = take-take (at + 1) n text (omega arith) in
-            past (shorter (take (at + 1) text) (drop (at + 1) (take n text))
-            (rw (← cut, take-append-drop (at + 1) (take n text)) b));
-      },
-    )
+    let past : ¬ (Begins IsVersionText (take (at + 1) text)) = unread (take (at + 1) text) none in
+    record {
+      within = omega arith;
+      begins = Begins-read (take at text) p front;
+      longest = λ n more fits b.
+          let cut : take (at + 1) (take n text) ≡ take (at + 1) text = take-take (at + 1) n text (omega arith) in
+          past (shorter (take (at + 1) text) (drop (at + 1) (take n text))
+          (rw (← cut, take-append-drop (at + 1) (take n text)) b));
+    }
 
--- Where the text ends and may not end, all of it is the longest.
-pub IsLongestBegin-ended : (text : List ℕ) (p : Progress) → run text beginning ≡ Some p → is_whole p.stage ≡ false
-    → ¬ (IsVersionText text) × IsLongestBegin IsVersionText text (length text)
-IsLongestBegin-ended text p e open' = (
-  λ whole.
-      let reads = Reads-denoted text whole.0 whole.1 in
-      let same : Some p ≡ Some (at_stage reads.stage whole.0) = sym e ∙ reads.gives in
-      let whole' = reads.whole in
-      cc,
-  record {
-    within = le_refl (length text);
-    begins = rw (take_all (length text) text (le_refl (length text))) (Begins-read text p e);
-    longest = λ n more fits b. omega arith;
-  },
-)
+-- Where the whole text is read, all of it is the longest.
+pub IsLongestBegin-read : (text : List ℕ) (p : Progress) → run text beginning ≡ Some p → IsLongestBegin IsVersionText text (length text)
+IsLongestBegin-read text p e = record {
+  within = le_refl (length text);
+  begins = rw (take_all (length text) text (le_refl (length text))) (Begins-read text p e);
+  longest = λ n more fits b. omega arith;
+}
+
+-- A text that may not end where it does is no version's.
+pub refused_open : (text : List ℕ) (p : Progress) → run text beginning ≡ Some p → is_whole p.stage ≡ false → ¬ (IsVersionText text)
+refused_open text p e open' whole =
+    let reads = Reads-denoted text whole.0 whole.1 in
+    let same : Some p ≡ Some (at_stage reads.stage whole.0) = sym e ∙ reads.gives in
+    let whole' = reads.whole in
+    cc
+
+-- A text that goes on behind its longest front is no version's.
+pub refused_beyond : (text : List ℕ) (at : ℕ) → IsLongestBegin IsVersionText text at → at < length text → ¬ (IsVersionText text)
+refused_beyond text at longest below whole =
+    longest.longest (length text) below (le_refl _) ([], (whole.0, rw (append-nil (take (length text) text), take_all (length text) text (le_refl (length text))) whole.1))
 
 -- A raw version's text is no version's text.
 pub raw_refused : (text : List ℕ) (v : Version) → IsRaw text → ¬ (DenotesVersion text v)

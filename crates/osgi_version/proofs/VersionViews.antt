@@ -1,17 +1,17 @@
 -- A reading's step against the step of what it stands for, and the front of a raw version's text.
-use Rattle.std.proofs.Common.{◌≡◌, ℕ, ◌+◌, ◌-◌, ◌<◌, ◌≤◌, ◌&&◌, Bool, true, false, cond, nat_eq, nat_lt, Some, None, option_map, List, [], ◌∷◌, ◌++◌, length, get_or, take, drop, slice_range, refl, ap, sym, ◌∙◌, arith, codes, length-take, length-drop, length-append, get_or-take, get_or-drop, take-append-drop}
+use Rattle.std.proofs.Common.{◌≡◌, ℕ, ◌+◌, ◌-◌, ◌<◌, ◌≤◌, ◌&&◌, Bool, true, false, cond, nat_eq, nat_lt, Some, None, option_map, List, [], ◌∷◌, ◌++◌, length, get_or, take, drop, slice_range, refl, ap, sym, ◌∙◌, arith, codes, length-take, length-drop, length-append, get_or-take, get_or-drop, take-append-drop, take-take}
 use Rattle.std.specs.List.{AllPass, starts_with}
 use Rattle.std.specs.Char.{is_ascii_whitespace}
 use Rattle.std.specs.Str.{IsTrimAsciiStart, IsUtf8}
 use Rattle.std.specs.Cmp.Lexicographic.{same_text}
 use Rattle.std.proofs.lemmas.Bool.Decides.{nat_tests}
-use Rattle.std.proofs.lemmas.List.{take_more, drop_at, get_or_append_left, get_or_at, get_or_default}
+use Rattle.std.proofs.lemmas.List.{take_more, drop-take, drop_at, get_or_append_left, get_or_at, get_or_default}
 use Rattle.std.proofs.lemmas.List.Elements.{All-weaker}
 use Rattle.std.proofs.lemmas.Str.{IsUtf8-from_ascii}
 use Rattle.std.proofs.lemmas.Str.Ascii.{IsAscii-from_all}
 use Rattle.osgi_version.specs.VersionText.{is_white, is_qualifier_byte, version, IsRaw}
 use Rattle.osgi_version.specs.VersionSteps.{at_stage, qualifier_step, step}
-use Rattle.osgi_version.specs.VersionReading.{progress_in, version_in}
+use Rattle.osgi_version.specs.VersionReading.{progress_in, version_in, IsReadingAt}
 use Rattle.osgi_version.specs.declared.reading.Reading.{Reading}
 use Rattle.osgi_version.specs.declared.reading.Stage.TheVariants.{ToQualifier, InQualifier}
 
@@ -31,6 +31,14 @@ slice_range-more text start at ordered inside =
     let count : at + 1 - start ≡ at - start + 1 = omega arith in
     let read : get_or (drop start text) (at - start) 0 ≡ get_or text at 0 = get_or-drop start text (at - start) 0 ∙ ap (λ i. get_or text i 0) place in
     ap (λ n. take n (drop start text)) count ∙ (more ∙ ap (λ b. take (at - start) (drop start text) ++ b ∷ []) read)
+
+-- a part of a front
+pub slice_range-take : (text : List ℕ) (at start end : ℕ) → start ≤ end → end ≤ at → slice_range (take at text) start end ≡ slice_range text start end
+slice_range-take text at start end ordered within =
+    let left : at ≡ start + (at - start) = omega arith in
+    ap (take (end - start))
+    (ap (λ n. drop start (take n text)) left ∙ drop-take start (at - start) text)
+    ∙ take-take (end - start) (at - start) (drop start text) (omega arith)
 
 pub length-slice_range : (text : List ℕ) (start at : ℕ) → start ≤ at → at ≤ length text → length (slice_range text start at) ≡ at - start
 length-slice_range text start at ordered inside = omega (arith, length-take (at - start) (drop start text), length-drop start text)
@@ -98,3 +106,8 @@ test-from_IsRaw text rest trimmed raw =
     let place : length before ≡ n = omega arith in
     let left : rest ≡ codes "raw:" ++ raw.1 = trimmed.1 ∙ (ap (drop n) read ∙ drop_at before (codes "raw:" ++ raw.1) n place) in
     rw left refl
+
+-- A version that was read in a text is read so in the front where the reading ends.
+pub version_in-take : (text : List ℕ) (at : ℕ) (r : Reading) → IsReadingAt at r → version_in (take at text) r ≡ version_in text r
+version_in-take text at r is =
+    ap (version r.major r.minor r.micro) (slice_range-take text at r.start r.end is.ordered is.within)

@@ -1,5 +1,9 @@
 pub mod Begins
 pub mod Field
+pub mod Holds
+pub mod IntervalReading
+pub mod RangeText
+pub mod Sequence
 pub mod TextFault
 pub mod VersionOrder
 pub mod VersionReading

@@ -2,6 +2,7 @@
 #![tactic(auto)]
 
 mod field;
+mod interval;
 mod list;
 mod memory;
 mod range;

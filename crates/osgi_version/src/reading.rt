@@ -1,6 +1,6 @@
 //! Reading a version's text, byte by byte.
 
-ghost use Rattle.std.specs.Prelude.{◌≡◌, ◌+◌, ◌-◌, ◌<◌, ◌≤◌, ◌↔◌, ◌==◌, ◌&&◌, ◌^◌, if◌then◌else◌, nat_lt, length, Some, None, IsTrue, IfSome, IfOk, IfErr, option_map, slice_index, slice_range};
+ghost use Rattle.std.specs.Prelude.{◌≡◌, ◌+◌, ◌-◌, ◌<◌, ◌≤◌, ◌↔◌, ◌==◌, ◌&&◌, ◌^◌, if◌then◌else◌, nat_lt, true, false, length, take, Some, None, IsTrue, IfSome, IfOk, IfErr, option_map, slice_index, slice_range};
 ghost use Rattle.std.specs.List.{AllPass};
 ghost use Rattle.osgi_version.specs.Begins.{IsLongestBegin};
 ghost use Rattle.osgi_version.specs.VersionText.{IsRaw, IsVersionText, DenotesVersion, is_white, is_qualifier_byte};
@@ -47,7 +47,7 @@ impl Stage {
     }
 }
 
-fn is_white(byte: u8) -> bool
+pub(crate) fn is_white(byte: u8) -> bool
     ensures { result ≡ is_white byte }
 {
     matches!(byte, b' ' | b'\t' | b'\n' | b'\x0c' | b'\r')
@@ -229,22 +229,53 @@ impl Reading {
     }
 }
 
-/// Reads a whole text. An `Err` is the length of its longest front that a version's text begins with.
-pub(crate) fn read(text: &[u8]) -> Result<Reading, usize>
-    ensures found { IfOk result (λ r. DenotesVersion text.now (version_in text.now r)) }
-    ensures qualifier { IfOk result (λ r. (r.start ≤ r.end) × (r.end ≤ length text.now)) }
-    ensures refused { IfErr result (λ at. ¬ (IsVersionText text.now) × IsLongestBegin IsVersionText text.now at) }
+/// The longest front of a text that a version's text begins with, as it was read.
+#[derive(Clone, Copy, Debug)]
+pub(crate) struct Front {
+    pub reading: Reading,
+    pub end: usize,
+}
+
+impl Front {
+    /// Whether the front is a version's text.
+    pub(crate) fn is_whole(self) -> bool
+        ensures { result ≡ is_whole self.reading.stage }
+    {
+        self.reading.stage.is_whole()
+    }
+}
+
+/// Reads a text as far as a version's text may go.
+pub(crate) fn read_front(text: &[u8]) -> Front
+    ensures longest { IsLongestBegin IsVersionText text.now result.end }
+    ensures reading { IsReadingAt result.end result.reading }
+    ensures whole { is_whole result.reading.stage ≡ true
+        → DenotesVersion (take result.end text.now) (version_in (take result.end text.now) result.reading) }
+    ensures open_end { is_whole result.reading.stage ≡ false → ¬ (IsVersionText (take result.end text.now)) }
 {
     let mut reading = Reading::new();
     for at in 0..text.len() {
         let Some(next) = reading.step(text, at) else {
-            return Err(at);
+            return Front { reading, end: at };
         };
         reading = next;
     }
-    if reading.stage.is_whole() {
-        Ok(reading)
+    Front {
+        reading,
+        end: text.len(),
+    }
+}
+
+/// Reads a whole text. An `Err` is the length of its longest front that a version's text begins with.
+pub(crate) fn read(text: &[u8]) -> Result<Reading, usize>
+    ensures found { IfOk result (λ r. DenotesVersion text.now (version_in text.now r)) }
+    ensures reading { IfOk result (IsReadingAt (length text.now)) }
+    ensures refused { IfErr result (λ at. ¬ (IsVersionText text.now) × IsLongestBegin IsVersionText text.now at) }
+{
+    let front = read_front(text);
+    if front.end == text.len() && front.is_whole() {
+        Ok(front.reading)
     } else {
-        Err(text.len())
+        Err(front.end)
     }
 }

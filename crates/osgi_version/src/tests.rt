@@ -111,6 +111,78 @@ fn versions_are_ordered(rt: HostRuntime) -> Result<(), Fail> {
 }
 
 #[test]
+fn texts_of_ranges_are_read_and_written(rt: HostRuntime) -> Result<(), Fail> {
+    let alloc = rt.alloc();
+    for (text, canonical) in [
+        ("(1,2.0.0.a]", "(1.0.0,2.0.0.a]"),
+        ("[1.0,2.0)", "[1.0.0,2.0.0)"),
+        (" [ 1 , 02.1 ] ", "[1.0.0,2.1.0]"),
+        ("(,)", "(0.0.0,0.0.0)"),
+        ("[2,1]", "[2.0.0,1.0.0]"),
+        (" 1.2 ", "1.2.0"),
+        ("", "0.0.0"),
+    ] {
+        let read = Range::parse(alloc, text.as_bytes())?;
+        let written = read.text(alloc)?;
+        assert_eq!(rt; written.as_str(), canonical, "in {text:?}");
+        assert_eq!(rt; Range::parse(alloc, written.bytes())?, read, "in {text:?}");
+        assert_eq!(rt; read.copy()?, read);
+    }
+    Ok(())
+}
+
+#[test]
+fn other_texts_are_no_ranges(rt: HostRuntime) {
+    for (text, at) in [
+        ("[1.0", 4),
+        ("[1.0;2", 4),
+        ("[1.,2]", 3),
+        ("[1]", 2),
+        ("[1,2", 4),
+        ("[1,2,", 4),
+        ("[1,2] x", 6),
+        (" [1,2]]", 6),
+        ("[raw:1,2]", 1),
+        ("1.0.0]", 5),
+        ("1,2", 1),
+        ("{1,2}", 0),
+    ] {
+        let read = Range::parse(rt.alloc(), text.as_bytes());
+        assert_eq!(rt; read, Err(VersionFault::Bad { at }), "in {text:?}");
+    }
+    for text in ["raw:1", " raw:[1,2]"] {
+        let read = Range::parse(rt.alloc(), text.as_bytes());
+        assert_eq!(rt; read, Err(VersionFault::Raw), "in {text:?}");
+    }
+}
+
+#[test]
+fn ranges_hold_versions(rt: HostRuntime) -> Result<(), Fail> {
+    let alloc = rt.alloc();
+    for (range, version, holds) in [
+        ("[1.0,2.0)", "1.0.0", true),
+        ("[1.0,2.0)", "1.9.9.zz", true),
+        ("[1.0,2.0)", "0.9.9.z", false),
+        ("[1.0,2.0)", "2.0.0", false),
+        ("[1.0,2.0)", "2.0.0.a", false),
+        ("(1.0,2.0]", "1.0.0", false),
+        ("(1.0,2.0]", "1.0.0.a", true),
+        ("(1.0,2.0]", "2", true),
+        ("[1.0,1.0]", "1", true),
+        ("[1.0,1.0)", "1", false),
+        ("[2.0,1.0]", "1.5", false),
+        ("1.0", "1.0.0", true),
+        ("1.0", "2147483647", true),
+        ("1.0", "0.9", false),
+    ] {
+        let read = Range::parse(alloc, range.as_bytes())?;
+        let version = Version::parse(alloc, version.as_bytes())?;
+        assert_eq!(rt; read.holds(&version), holds, "{range}");
+    }
+    Ok(())
+}
+
+#[test]
 fn texts_are_utf8(rt: HostRuntime) -> Result<(), Fail> {
     let alloc = rt.alloc();
     let text = Text::new(alloc, "é1".as_bytes())?;

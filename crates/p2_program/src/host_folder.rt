@@ -52,9 +52,15 @@ impl<R: Files + AllocGlobal + Clone + Drop> HostFolder<R> {
 impl<R: Files + AllocGlobal + Clone + Drop> Folder for HostFolder<R> {
     ghost told = { λ _. None };
 
+    ghost left_since = { λ _ _ _. ⊥ };
+
     ghost faults = { λ f. f.faults };
 
-    ghost formed = { λ _. tt };
+    ghost image_now = { λ _. tt };
+
+    ghost counts_now = { λ _. tt };
+
+    ghost only_now = { λ _. tt };
 
     fn look(&mut self, alloc: Global, path: &Path) -> Result<Option<Node>, FolderError> {
         let outcome = look_at(&self.runtime, alloc, self.root.as_str(), path);

@@ -1,10 +1,8 @@
-ghost use Rattle.std.specs.Prelude.{◌≡◌, ◌≤◌, length, take, ◌↔◌, ◌∷◌, [], ◌++◌, IfOk, IsSome, IsTrue, MatchOption, OnErr, OnOk, Some};
+ghost use Rattle.std.specs.Prelude.{◌≡◌, ◌≤◌, length, take, ◌↔◌, ◌∷◌, [], ◌++◌, IfOk, IsSome, IsTrue, MatchOption, None, OnErr, OnOk};
 ghost use Rattle.std.specs.Option.{option_copied};
 ghost use Rattle.folder_core.specs.Folder.{CanSet, IsFormed, set_at};
-ghost use Rattle.folder_core.specs.Formed.{IsFormed-had};
 ghost use Rattle.folder_core.specs.Name.{AreRising, AreThose};
 ghost use Rattle.folder_core.specs.Plain.{map_of, only_root, GivesKid, GivesNoKid, MaySet, Sets, StandsBelow};
-ghost use Rattle.folder_core.specs.Step.{OnTold, Step};
 
 use super::names::{kid_name, name_below, rising};
 use crate::fault::{Failed, FolderError};
@@ -29,7 +27,7 @@ pub struct PlainFolder {
 impl PlainFolder {
     /// A folder with nothing in it.
     pub fn new(alloc: Global) -> Result<PlainFolder, NoMemory>
-        ensures { IfOk result (λ folder. ⟦<PlainFolder as Folder>⟧.told folder ≡ Some (record { now = only_root; synced = only_root })) }
+        ensures { IfOk result (λ folder. map_of folder.touches ≡ only_root) }
     {
         let mut touches = List::new(alloc);
         touches.push(Touch {
@@ -41,7 +39,7 @@ impl PlainFolder {
 
     /// The node at a path.
     pub fn node(&self, path: &Path) -> Option<&Node>
-        ensures { OnTold (⟦<PlainFolder as Folder>⟧.told self.now) (λ s. s.now path.now ≡ option_copied result) }
+        ensures { map_of self.now.touches path.now ≡ option_copied result }
     {
         last_node(self.touches.items(), path.names().items())
     }
@@ -49,10 +47,8 @@ impl PlainFolder {
     /// Puts a node at a path, or takes the one there away, and answers true. It answers false where `set` may not be
     /// called. Then, and refused, it changes nothing.
     pub fn put(&mut self, path: &Path, node: Option<&Node>) -> Result<bool, NoMemory>
-        ensures ok { IfOk result (λ there. Step (⟦<PlainFolder as Folder>⟧.told self.old) (⟦<PlainFolder as Folder>⟧.told self.new)
-            (λ s t. Sets there path.now (option_copied node.entry) s.now t.now)) }
-        ensures err { OnErr result (Step (⟦<PlainFolder as Folder>⟧.told self.old) (⟦<PlainFolder as Folder>⟧.told self.new)
-            (λ s t. t.now ≡ s.now)) }
+        ensures ok { IfOk result (λ there. Sets there path.now (option_copied node.entry) (map_of self.old.touches) (map_of self.new.touches)) }
+        ensures err { OnErr result (map_of self.new.touches ≡ map_of self.old.touches) }
     {
         if !may_set(self.touches.items(), path, node) {
             return Ok(false);
@@ -150,11 +146,17 @@ fn kids_of(alloc: Global, touches: &[Touch], path: &Path) -> Result<List<Name>, 
 }
 
 impl Folder for PlainFolder {
-    ghost told = { λ f. Some (record { now = map_of f.touches; synced = map_of (take f.synced f.touches) }) };
+    ghost told = { λ _. None };
+
+    ghost left_since = { λ _ _ _. ⊥ };
 
     ghost faults = { λ _. 0 };
 
-    ghost formed = { λ f. IsFormed-had (map_of f.touches) f.formed };
+    ghost image_now = { λ _. tt };
+
+    ghost counts_now = { λ _. tt };
+
+    ghost only_now = { λ _. tt };
 
     fn look(&mut self, _alloc: Global, path: &Path) -> Result<Option<Node>, FolderError> {
         Ok(copied(self.node(path))?)
@@ -168,7 +170,7 @@ impl Folder for PlainFolder {
     }
 
     fn set(&mut self, path: &Path, node: Option<&Node>) -> Result<(), FolderError> {
-        Ok(self.keep(path, node)?)
+        Ok(self.put(path, node).map(|_| ())?)
     }
 
     fn sync(&mut self) -> Result<(), Failed> {

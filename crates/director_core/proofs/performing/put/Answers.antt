@@ -1,5 +1,6 @@
 use Rattle.std.proofs.Common.{sym, subst, List}
 use Rattle.folder_core.specs.Step.{OnTold}
+use Rattle.folder_core.proofs.Moments.{formed_now}
 use Rattle.folder_core.specs.declared.node.Touch.{Touch}
 use Rattle.director_core.specs.Laid.{CanLay, AreNodes}
 use Rattle.director_core.proofs.Maps.{can_lay_first, first_nodes, put_leaves, synced_now}
@@ -8,7 +9,7 @@ use Rattle.director_core.proofs.performing.put.Goals as goal
 pub lay-requires-clause-can_lay : goal.lay-requires-clause-can_lay
 lay-requires-clause-can_lay g c =
     let P : List Touch → Type 0 = λ touches. OnTold (g.F.Folder.told c.args.folder.now) (λ s. CanLay touches s.now) in
-    subst P (sym c.in_ok-touches.ensures) (can_lay_first (g.F.Folder.told c.args.folder.now) c.args.plan.now.profile c.args.plan.now.name (g.met.F.Folder.formed c.args.folder.now) c.requires.bare)
+    subst P (sym c.in_ok-touches.ensures) (can_lay_first (g.F.Folder.told c.args.folder.now) c.args.plan.now.profile c.args.plan.now.name (formed_now (g.F.Folder.told c.args.folder.now) (g.met.F.Folder.image_now c.args.folder.now)) c.requires.bare)
 
 pub lay-requires-clause-nodes : goal.lay-requires-clause-nodes
 lay-requires-clause-nodes g c =
@@ -17,7 +18,7 @@ lay-requires-clause-nodes g c =
 pub returns-in-Ok-sync-clause-leaves : goal.returns-in-Ok-sync-clause-leaves
 returns-in-Ok-sync-clause-leaves g c =
     put_leaves (g.F.Folder.told c.args.folder.now) (g.F.Folder.told c.lay.new.folder) (g.F.Folder.told c.sync.new.self) c.in_ok-touches.touches c.args.plan.now.profile c.args.plan.now.name
-    c.in_ok-touches.ensures (g.met.F.Folder.formed c.args.folder.now) c.requires.bare c.in-Ok.ensures.ok c.in-Ok-sync.ensures.stays
+    c.in_ok-touches.ensures (formed_now (g.F.Folder.told c.args.folder.now) (g.met.F.Folder.image_now c.args.folder.now)) c.requires.bare c.in-Ok.ensures.ok c.in-Ok-sync.ensures.stays
 
 pub returns-in-Ok-sync-clause-synced : goal.returns-in-Ok-sync-clause-synced
 returns-in-Ok-sync-clause-synced g c =

@@ -1,28 +1,22 @@
-use Rattle.std.proofs.Common.{◌≤◌, sym, length, arith, take_all}
-use Rattle.osgi_version.specs.VersionReading.{progress_in}
-use Rattle.osgi_version.proofs.VersionPlaces.{run-step, IsLongestBegin-stopped, IsLongestBegin-ended, DenotesVersion-whole}
+use Rattle.std.proofs.Common.{◌≡◌, ℕ, ◌<◌, ◌≤◌, ◌≢◌, List, length, take, sym, subst, arith, take_all}
+use Rattle.osgi_version.specs.VersionText.{IsVersionText}
+use Rattle.osgi_version.proofs.VersionPlaces.{refused_beyond}
 use Rattle.osgi_version.proofs.reading.read.Goals as goal
+use Rattle.osgi_version.proofs.reading.read.Goals.{else-front-text-via-then-front-text+else-is_whole, else-front-text-via-else-front-text}
 
-pub returns-in_default-clause-refused : goal.returns-in_default-clause-refused
-returns-in_default-clause-refused c =
+refused_all : (text : List ℕ) (end : ℕ) → end ≡ length text → ¬ (IsVersionText (take end text)) → ¬ (IsVersionText text)
+refused_all text end all refused = subst (λ (t : List ℕ). ¬ (IsVersionText t)) (take_all end text (omega arith)) refused
+
+below_all : (text : List ℕ) (end : ℕ) → end ≤ length text → end ≢ length text → end < length text
+below_all text end within other = omega arith
+
+pub returns-else-front-text-clause-refused : goal.returns-else-front-text-clause-refused
+returns-else-front-text-clause-refused c =
     let text = c.args.text.now in
-    IsLongestBegin-stopped text c.loop-at.at (progress_in text c.loop-at.reading) c.loop-at-test.true c.loop-at.invariant.0 (sym c.in_default.ensures.steps)
-
-pub loop-at-preserved : goal.loop-at-preserved
-loop-at-preserved c =
-    let text = c.args.text.now in (
-      run-step text c.loop-at.at (progress_in text c.loop-at.reading) (progress_in text c.in-Some.next) c.loop-at-test.true c.loop-at.invariant.0 (sym c.in-Some.ensures.steps),
-      c.in-Some.ensures.reading,
-    )
-
-pub returns-then-is_whole-clause-found : goal.returns-then-is_whole-clause-found
-returns-then-is_whole-clause-found c =
-    let text = c.args.text.now in
-    let all : length text ≤ c.loop-at.at = omega arith in
-    DenotesVersion-whole text (progress_in text c.loop-at.reading) (rw take_all at c.loop-at.invariant.0) (sym c.if-is_whole.ensures)
-
-pub returns-else-is_whole-clause-refused : goal.returns-else-is_whole-clause-refused
-returns-else-is_whole-clause-refused c =
-    let text = c.args.text.now in
-    let all : length text ≤ c.loop-at.at = omega arith in
-    IsLongestBegin-ended text (progress_in text c.loop-at.reading) (rw take_all at c.loop-at.invariant.0) (sym c.if-is_whole.ensures)
+    let front = c.read_front-front in
+    elim c.else-front-text.branch [
+      | else-front-text-via-then-front-text+else-is_whole w ↦
+          (refused_all text front.result.end w.if-front-text.true (front.ensures.open_end (sym w.if-is_whole.ensures)), front.ensures.longest)
+      | else-front-text-via-else-front-text w ↦
+          (refused_beyond text front.result.end front.ensures.longest (below_all text front.result.end front.ensures.longest.within w.if-front-text.false), front.ensures.longest)
+    ]

@@ -2,7 +2,7 @@ use Rattle.std.proofs.Common.{◌≡◌, Some, take}
 use Rattle.osgi_version.specs.VersionSteps.{beginning}
 use Rattle.osgi_version.specs.VersionReading.{progress_in, IsReadingAt}
 use Rattle.osgi_version.proofs.VersionRuns.{run}
-use Rattle.osgi_version.proofs.reading.read.Given as goal
+use Rattle.osgi_version.proofs.reading.read_front.Given as goal
 
 -- the front is read
 abbrev pub invariant-loop-at : goal.invariant-loop-at

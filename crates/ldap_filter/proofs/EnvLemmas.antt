@@ -3,6 +3,7 @@ use Rattle.std.proofs.Common.{◌≡◌, ℕ, ◌+◌, ◌<◌, Bool, true, fals
 use Rattle.std.proofs.lemmas.List.Elements.{All-get_or}
 use Rattle.std.proofs.lemmas.List.{get_or-map, length-map}
 use Rattle.std.specs.Cmp.Lexicographic.{pointwise}
+use Rattle.ldap_filter.proofs.Rest.{rest_at}
 use Rattle.ldap_filter.specs.SameLaws.{text_eq-itself, text_eq-same}
 use Rattle.ldap_filter.specs.EnvPairs.{IsEnv, IsEnvPair, lowered, value_of}
 use Rattle.ldap_filter.specs.EnvSeen.{pair_seen, pairs_seen}
@@ -15,9 +16,6 @@ entries_eq [] [] = refl
 entries_eq [] (y ∷ ys) = refl
 entries_eq (x ∷ xs) [] = refl
 entries_eq (x ∷ xs) (y ∷ ys) = rw (entries_eq xs ys) refl
-
-pub rest_at : (es : List Entry) (i : ℕ) (e : Entry) → i < length es → e ≡ get_or es i e → drop i es ≡ e ∷ drop (i + 1) es
-rest_at es i e inside is = rw (add-one i, drop-cons es i e inside) (ap (λ x. x ∷ drop (suc i) es) (sym is))
 
 -- an entry's key has no capital letter
 pub low_at : (es : List Entry) (i : ℕ) (e : Entry) → i < length es → e ≡ get_or es i e → IsEnv (pairs_seen es) → lowered e.key ≡ e.key

@@ -1,3 +1,5 @@
 pub mod EnvLemmas
 pub mod Folds
+pub mod PieceLemmas
+pub mod Rest
 pub mod SameLength

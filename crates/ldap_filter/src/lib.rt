@@ -3,7 +3,9 @@
 
 mod env;
 mod filter;
+mod pieces;
 mod test;
+mod truth;
 
 pub use env::Env;
 pub use filter::Filter;

@@ -4,6 +4,7 @@
 mod artifact;
 mod id;
 mod judgement;
+mod matching;
 mod name;
 mod note;
 mod option;
@@ -19,6 +20,7 @@ mod update;
 pub use artifact::ArtifactKey;
 pub use id::is_unit_id;
 pub use judgement::Judgement;
+pub use matching::{applies, matches};
 pub use name::UnitName;
 pub use note::Note;
 pub use phase::{Phase, PhaseText};

@@ -9,6 +9,8 @@ use Rattle.director_words.specs.declared.request.Request.TheVariants.{Install}
 use Rattle.director_words.specs.Status.{short_line_of}
 use Rattle.director_words.specs.declared.status.Status.{Status}
 use Rattle.director_words.specs.declared.status.Status.TheVariants.{Done, NotBuilt, Usage, Unknown, FolderFault, SourceFault, SinkFault, NoMemory}
+use Rattle.director_words.specs.Command.{command_named}
+use Rattle.director_words.specs.Values.{values_found}
 use Rattle.director_core.specs.Answer.{IsAsked, AsksFor, HasChild, Installs, CanInstall, WantsMore, NamesUnknown, IsAnswer, IsPlainAnswer, IsAnswerOrFault, Leaves}
 use Rattle.director_core.specs.Durable.{OnCommitted}
 use Rattle.director_core.specs.Laid.{IsBare}
@@ -52,17 +54,20 @@ failed_answer words m files profile name F K (NoMemory Either) i h = absurd h
 
 same_word : (words : List (List ℕ)) (p q v w : List ℕ) → AsksFor words p v → AsksFor words q w → v ≡ w
 same_word words p q v w a b =
-    let e : words ≡ _ = a.1 in
-    let f : words ≡ _ = b.1 in
-    let g : v ∷ [] ≡ a.0 ∷ [] = a.5 in
-    let h : w ∷ [] ≡ b.0 ∷ [] = b.5 in
+    let first : Some a.asks.name ≡ Some b.asks.name = sym a.asks.first ∙ b.asks.first in
+    let names : a.asks.name ≡ b.asks.name = cc in
+    let command : Some a.asks.syntax ≡ Some b.asks.syntax = sym a.asks.command ∙ (ap command_named names ∙ b.asks.command) in
+    let syntaxes : a.asks.syntax ≡ b.asks.syntax = cc in
+    let found : values_found a.asks.name a.asks.syntax words ≡ values_found b.asks.name b.asks.syntax words =
+    ap (λ n. values_found n a.asks.syntax words) names ∙ ap (λ s. values_found b.asks.name s words) syntaxes in
+    let roots : v ∷ [] ≡ w ∷ [] = a.asks.values.2.0 ∙ ((λ i. (found i).operands) ∙ sym b.asks.values.2.0) in
     cc
 
 pub not_bare : (m : Map) → IsBare m → HasChild m → ⊥
 not_bare m is_bare child = let e = is_bare child.0 in let h = child.1 in cc
 
 asked_by : (words : List (List ℕ)) (profile word : List ℕ) → AsksFor words profile word → IsAsked words
-asked_by words profile word asks = (Install profile 10000 (word ∷ []), asks)
+asked_by words profile word asks = (profile, word, asks)
 
 -- of the four plain answers only one fits
 install_not_more : (words : List (List ℕ)) (m : Map) (files : Files) → CanInstall words m files → WantsMore words m files → ⊥

@@ -6,7 +6,6 @@ use Rattle.folder_core.specs.Tree.{Files}
 use Rattle.folder_core.specs.declared.node.After.TheVariants.{Unchanged, Recover, Either}
 use Rattle.unit_model.specs.declared.name.UnitName.{UnitName}
 use Rattle.director_words.specs.Request.{Asks}
-use Rattle.director_words.specs.declared.request.Request.{Request}
 use Rattle.director_words.specs.declared.request.Request.TheVariants.{Install}
 use Rattle.director_words.specs.declared.status.Status.{Status}
 use Rattle.director_words.specs.declared.status.Status.TheVariants.{Done, NotBuilt, Usage, Unknown, FolderFault, SourceFault, SinkFault, NoMemory}
@@ -15,13 +14,15 @@ use Rattle.director_core.specs.Laid.{IsBare, bare, laid}
 use Rattle.director_core.specs.Named.{Names, NamesNone}
 use Rattle.director_core.specs.Source.{IsBeyond, Gives}
 
--- The words denote a request.
-abbrev pub IsAsked : List (List ℕ) → Type 0
-IsAsked words = (request : Request) × Asks words request
+-- The words ask to install one root, named by this word, into the profile. No search is needed for one plain unit, so the
+-- budget is of no matter.
+pub record AsksFor (words : List (List ℕ)) (profile word : List ℕ) : Type 0 where
+  pub budget : ℕ
+  pub asks : Asks words (Install profile budget (word ∷ []))
 
--- The words ask to install one root, named by this word, into the profile.
-abbrev pub AsksFor : List (List ℕ) → List ℕ → List ℕ → Type 0
-AsksFor words profile word = Asks words (Install profile 10000 (word ∷ []))
+-- The words denote a request that is built.
+abbrev pub IsAsked : List (List ℕ) → Type 0
+IsAsked words = (profile word : List ℕ) × AsksFor words profile word
 
 abbrev pub HasChild : Map → Type 0
 HasChild m = (name : List ℕ) × IsSome (m (name ∷ []))

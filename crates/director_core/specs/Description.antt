@@ -1,5 +1,5 @@
 -- A description of one unit that has nothing but a name.
-use Rattle.std.specs.Prelude.{◌≡◌, ℕ, ◌≤◌, ◌==◌, not, Bool, true, false, List, [], ◌∷◌, ◌++◌, length, codes, Some}
+use Rattle.std.specs.Prelude.{◌≡◌, ℕ, ◌≤◌, ◌==◌, not, Bool, true, false, List, [], ◌∷◌, ◌++◌, length, codes, Some, None}
 use Rattle.std.specs.List.{AllPass}
 use Rattle.osgi_version.specs.declared.version.Version.{Version}
 use Rattle.osgi_version.specs.VersionText.{DenotesVersion, IsVersion}
@@ -39,11 +39,18 @@ abbrev pub unit_of : UnitName → Unit
 unit_of name =
     record {
       name = name;
+      singleton = false;
+      filter = None;
       update = record {
         id = name.id;
         range = record { floor = zero_version; floor_included = true; ceiling = Some (record { version = name.version; included = false }) };
         severity = 0;
         description = [];
       };
+      touchpoint = None;
+      properties = [];
       provided = record { namespace = codes "org.eclipse.equinox.p2.iu"; name = name.id; version = name.version } ∷ [];
+      required = [];
+      artifacts = [];
+      phases = [];
     }

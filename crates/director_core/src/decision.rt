@@ -1,4 +1,4 @@
-ghost use Rattle.std.specs.Prelude.{◌≡◌, ◌≤◌, List, Some, IfOk, IfErr, OnOk, Err};
+ghost use Rattle.std.specs.Prelude.{◌≡◌, ◌≢◌, ◌≤◌, ℕ, List as Bytes, [], ◌∷◌, Some, IfOk, IfErr, IfSome, IfNone, OnOk, Err};
 ghost use Rattle.unit_model.specs.Profile.{IsProfile};
 ghost use Rattle.folder_core.specs.Cause.{Rose};
 ghost use Rattle.folder_core.specs.Step.{OnTold, Step};
@@ -14,7 +14,7 @@ use crate::look_up::names;
 use crate::source::read_source;
 use director_words::{Request, RequestFault, Status, read_request};
 use folder_core::{After, Folder, FolderError, Path, Tree};
-use osgi_version::Text;
+use osgi_version::{List, Text};
 use std::alloc::Global;
 use unit_model::UnitName;
 
@@ -64,23 +64,38 @@ pub(crate) fn decide<F: Folder, T: Tree>(
     })
 }
 
+/// Of the requests that words denote, the install of one root is built. All else is `Usage` for now.
 fn read_words(alloc: Global, words: &[Text]) -> Result<Asked, Status>
     ensures found { IfOk result (λ asked. AsksFor words.now asked.profile asked.word) }
+    ensures profile { IfOk result (λ asked. IsProfile asked.profile) }
+    ensures root { IfOk result (λ asked. IsRootWord asked.word) }
     ensures refused { IfErr result (Stops (¬ (IsAsked words.now)) ⊥ ⊥ ⊥ (λ word. ⊥)) }
 {
-    let Request::Install {
-        profile,
-        budget: _,
-        roots,
-    } = match read_request(alloc, words) {
-        Ok(request) => request,
-        Err(RequestFault::Usage) => return Err(Status::Usage),
-        Err(RequestFault::NoMemory) => return Err(Status::NoMemory(After::Unchanged)),
-    };
-    match roots.into_vec().pop() {
-        Some(word) => Ok(Asked { profile, word }),
-        None => unreachable!(),
+    match read_request(alloc, words) {
+        Ok(
+            Request::Install {
+                profile,
+                budget: _,
+                roots,
+            },
+        ) => match only_root(roots) {
+            Some(word) => Ok(Asked { profile, word }),
+            None => Err(Status::Usage),
+        },
+        Ok(_) => Err(Status::Usage),
+        Err(RequestFault::Usage) => Err(Status::Usage),
+        Err(RequestFault::NoMemory) => Err(Status::NoMemory(After::Unchanged)),
     }
+}
+
+/// The root, where there is one and no other.
+fn only_root(roots: List<Text>) -> Option<Text>
+    ensures one { IfSome result (λ word. roots ≡ word ∷ []) }
+    ensures none { IfNone result ((word : Bytes ℕ) → roots ≢ word ∷ []) }
+{
+    let mut words = roots.into_vec();
+    let word = words.pop()?;
+    if words.is_empty() { Some(word) } else { None }
 }
 
 /// A folder that isn't empty is `NotBuilt`.

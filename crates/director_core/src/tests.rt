@@ -130,6 +130,10 @@ fn words_are_refused(rt: HostRuntime) -> Result<(), Fail> {
         ("install -p ide a/2.0.0", 4, "unknown a/2.0.0\n"),
         ("install -p ide", 2, "usage\n"),
         ("install -b 0 a", 2, "usage\n"),
+        ("install -p ide -b 50001 a", 2, "usage\n"),
+        ("install -p ide a a", 2, "usage\n"),
+        ("update -p ide", 2, "usage\n"),
+        ("recover", 2, "usage\n"),
     ] {
         assert!(rt;
             is_refused(rt.alloc(), &FIRST, line, code, printed)?,
@@ -166,7 +170,8 @@ fn a_second_command_is_not_built(rt: HostRuntime) -> Result<(), Fail> {
     let alloc = rt.alloc();
     let files = [("f/META-INF/p2.inf", "units.0.id=a\nunits.0.version= 1.0 \n")];
     let mut folder = PlainFolder::new(alloc)?;
-    let (first, _) = command(alloc, &mut folder, &files, "install -p ide a/1")?;
+    let line = "install --profile=ide -b 50000 -- a/1";
+    let (first, _) = command(alloc, &mut folder, &files, line)?;
     assert_eq!(rt; first.code(), 0);
     let (second, out) = command(alloc, &mut folder, &files, "install -p ide a")?;
     assert_eq!(rt; second.code(), 1);

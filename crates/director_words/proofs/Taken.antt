@@ -1,8 +1,7 @@
 -- The commands are simple and no flag has a rule on another, so clap's functions say what it makes of any words.
-use Rattle.std.proofs.Common.{◌≡◌, ◌≢◌, ℕ, Bool, true, false, ◌&&◌, List, [], ◌∷◌, refl, ap, ◌∙◌, ⊎_elim, Option, Some, None, Bor, map, option_map, unwrap_or}
-use Rattle.clap.specs.Words.{App, FailsBy, HasKind, IsAmong, Kinds, fault_of, is_simple, is_simple_and_free, kind_of}
+use Rattle.std.proofs.Common.{◌≡◌, ◌≢◌, ℕ, true, List, [], ◌∷◌, refl, ap, ◌∙◌, ⊎_elim, Option, Some, None, Bor, map, option_map, unwrap_or}
+use Rattle.clap.specs.Words.{HasKind, Kinds, is_simple, is_simple_and_free, kind_of}
 use Rattle.clap.specs.declared.error.Error.{Error}
-use Rattle.clap.specs.declared.error.kind.ErrorKind.{ErrorKind}
 use Rattle.clap.specs.declared.error.kind.ErrorKind.TheVariants.{OutOfMemory}
 use Rattle.clap.proofs.WalkLemmas.{both}
 use Rattle.director_words.specs.declared.command.Flags.{Flags}

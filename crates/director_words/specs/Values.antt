@@ -1,5 +1,5 @@
 -- What clap finds of a command's words, by its own stated function of a simple flat command.
-use Rattle.std.specs.Prelude.{◌≡◌, ℕ, List, [], Option, Some, codes, true, false, Bool, unwrap_or}
+use Rattle.std.specs.Prelude.{◌≡◌, ℕ, List, [], Some, codes, true, false, Bool, unwrap_or}
 use Rattle.clap.specs.Lexer.{usize_max}
 use Rattle.clap.specs.Words.{App, Row, Rule, all_of, first_of, fault_of, matches_of, new_app, new_rule, with_rule}
 use Rattle.clap.specs.Simple.{on_top}

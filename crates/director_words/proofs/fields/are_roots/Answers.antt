@@ -1,4 +1,4 @@
-use Rattle.std.proofs.Common.{true, refl, All, sym, subst}
+use Rattle.std.proofs.Common.{refl, sym, subst}
 use Rattle.std.proofs.lemmas.List.{take_all}
 use Rattle.std.proofs.lemmas.List.Elements.{All-more, All-get_or, All-same}
 use Rattle.director_words.specs.Root.{IsRootWord}

@@ -1,4 +1,4 @@
-use Rattle.std.proofs.Common.{All, true, ap, sym, ◌∙◌, subst, List, ℕ}
+use Rattle.std.proofs.Common.{All, sym, ◌∙◌, subst, List, ℕ}
 use Rattle.std.proofs.lemmas.List.Elements.{All-same}
 use Rattle.std.proofs.lemmas.Result.{IfOk-weaker}
 use Rattle.director_words.specs.Root.{IsRootWord}

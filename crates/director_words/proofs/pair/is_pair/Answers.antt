@@ -1,4 +1,3 @@
-use Rattle.std.proofs.Common.{true, false}
 use Rattle.director_words.proofs.Cuts.{no_pair, key_of_pair}
 use Rattle.director_words.proofs.pair.is_pair.Goals as goal
 

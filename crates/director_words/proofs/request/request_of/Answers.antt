@@ -1,4 +1,4 @@
-use Rattle.std.proofs.Common.{◌≡◌, inr, ◌∙◌, sym}
+use Rattle.std.proofs.Common.{inr, ◌∙◌}
 use Rattle.director_words.specs.declared.command.Verb.TheVariants as verb
 use Rattle.director_words.proofs.Requests.{made_by, only_plan, no_plan, passed_on, install, remove, update, set_env}
 use Rattle.director_words.proofs.request.request_of.Goals as goal

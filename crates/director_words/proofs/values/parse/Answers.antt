@@ -1,5 +1,5 @@
 use Rattle.std.proofs.Common.{◌≡◌, ◌∙◌, ℕ, List, [], map, true, ap, subst}
-use Rattle.clap.specs.Words.{App, HasKind, HasMatchesOf, fault_of, is_simple, is_simple_and_free}
+use Rattle.clap.specs.Words.{App, HasKind, HasMatchesOf, fault_of, is_simple_and_free}
 use Rattle.director_words.specs.Values.{IsTaken, values_found, values_in, app_named}
 use Rattle.director_words.proofs.Taken.{is_plain, is_simple_too, only_memory}
 use Rattle.director_words.proofs.values.parse.Goals as goal

@@ -1,4 +1,4 @@
-use Rattle.std.proofs.Common.{◌≡◌, ◌∙◌, map, List, ℕ, codes, [], Option, option_map, unwrap_or, ap, refl}
+use Rattle.std.proofs.Common.{◌≡◌, ◌∙◌, map, codes, [], option_map, unwrap_or, ap, refl}
 use Rattle.clap.proofs.WalkLemmas.{first_value-rows, raw_values-rows}
 use Rattle.clap.specs.Words.{all_of, first_of, found_of, rows_of}
 use Rattle.director_words.proofs.Taken.{values_or_none}

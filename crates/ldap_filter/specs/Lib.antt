@@ -1,6 +1,8 @@
 pub mod Behind
 pub mod EnvEq
+pub mod EnvFault
 pub mod EnvPairs
+pub mod EnvPlace
 pub mod EnvSeen
 pub mod Pieces
 pub mod Same

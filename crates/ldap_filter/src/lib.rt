@@ -2,11 +2,14 @@
 #![tactic(auto)]
 
 mod env;
+mod env_fault;
+mod env_set;
 mod filter;
 mod pieces;
 mod test;
 mod truth;
 
 pub use env::Env;
+pub use env_fault::EnvFault;
 pub use filter::Filter;
 pub use test::Test;

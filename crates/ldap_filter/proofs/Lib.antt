@@ -4,5 +4,7 @@ pub mod EnvLemmas
 pub mod EnvPlaces
 pub mod Folds
 pub mod PieceLemmas
+pub mod ReadsBack
 pub mod Rest
 pub mod SameLength
+pub mod TextLemmas

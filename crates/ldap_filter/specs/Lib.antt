@@ -4,6 +4,7 @@ pub mod EnvFault
 pub mod EnvPairs
 pub mod EnvPlace
 pub mod EnvSeen
+pub mod FilterText
 pub mod Pieces
 pub mod Same
 pub mod SameLaws

@@ -8,6 +8,7 @@ mod filter;
 mod pieces;
 mod test;
 mod truth;
+mod writing;
 
 pub use env::Env;
 pub use env_fault::EnvFault;

@@ -1,5 +1,5 @@
 -- Finding a key's place, entry by entry.
-use Rattle.std.proofs.Common.{◌≡◌, ℕ, suc, ◌+◌, ◌<◌, ◌≤◌, Some, None, Ok, Err, List, [], ◌∷◌, length, take, get_or, All, refl, ap, sym, ◌∙◌, subst, arith, take_all, le_refl}
+use Rattle.std.proofs.Common.{◌≡◌, ℕ, ◌+◌, ◌<◌, ◌≤◌, Some, None, Ok, Err, List, [], ◌∷◌, length, take, get_or, All, refl, ap, sym, ◌∙◌, subst, arith, take_all, le_refl}
 use Rattle.std.specs.List.{slice_get}
 use Rattle.std.specs.Ordering.{nat_cmp, ordering_then, ordering_reverse}
 use Rattle.std.specs.declared.cmp.Ordering.{Ordering}
@@ -48,9 +48,11 @@ IsPlace-absent es i x key inside is below greater =
 
 pub IsPlace-end : (es : List Entry) (key : List ℕ) (i : ℕ) → length es ≤ i → AreBelow es key i → IsPlace es key (Err (length es))
 IsPlace-end es key i past below =
-    let all : take i es ≡ take (length es) es = take_all i es past ∙ sym (take_all (length es) es (le_refl (length es))) in
-    (le_refl (length es), subst (All (λ e. slice_cmp nat_cmp e.key key ≡ Less)) all below,
-    λ e at. absurd (none e (slice_get_past es (length es) (le_refl (length es))) at))
+    let all : take i es ≡ take (length es) es = take_all i es past ∙ sym (take_all (length es) es (le_refl (length es))) in (
+      le_refl (length es),
+      subst (All (λ e. slice_cmp nat_cmp e.key key ≡ Less)) all below,
+      λ e at. absurd (none e (slice_get_past es (length es) (le_refl (length es))) at),
+    )
   where
     none : (e : Entry) → slice_get es (length es) ≡ None → slice_get es (length es) ≡ Some e → ⊥
     none e p q = let r : Some e ≡ None = sym q ∙ p in absurd (cc)

@@ -1,13 +1,13 @@
 -- The canonical text of a filter that has a text denotes it.
-use Rattle.std.proofs.Common.{◌≡◌, ◌≢◌, ℕ, ◌||◌, ◌==◌, Bool, true, false, cond, List, [], ◌∷◌, ◌++◌, map, refl, ap, sym, subst, ◌∙◌, arith, append_assoc, append-nil, Result, Ok, Err, IfOk}
-use Rattle.std.specs.List.{AllPass, flat_map}
+use Rattle.std.proofs.Common.{◌≡◌, ◌≢◌, ℕ, ◌||◌, ◌==◌, Bool, true, false, cond, List, [], ◌∷◌, ◌++◌, map, refl, ap, sym, subst, ◌∙◌, arith, append-nil, Result, Ok, Err, IfOk}
+use Rattle.std.specs.List.{flat_map}
 use Rattle.std.specs.Char.{to_ascii_lowercase}
 use Rattle.std.proofs.lemmas.List.{map-append}
 use Rattle.std.proofs.lemmas.List.Elements.{All-nil, All-map, All-weaker}
 use Rattle.std.proofs.lemmas.Bool.Decides.{nat_tests}
 use Rattle.osgi_version.specs.VersionText.{is_white}
 use Rattle.ldap_filter.specs.EnvPairs.{lowered}
-use Rattle.ldap_filter.specs.FilterText.{IsWhite, is_attribute_byte, IsAttribute, is_special, IsValue, Empty, Plain, Escaped, ArePieces, EmptyPiece, Star, PlainByte, EscapedByte, IsTest, Denotes, DenoteEach, AllOf, AnyOf, NoneOf, Single, Last, More, DenotesFilter, IsFilter, escape_byte, escaped, starred_piece, starred, test_text, joined, level_text, filter_text}
+use Rattle.ldap_filter.specs.FilterText.{is_attribute_byte, IsAttribute, is_special, IsValue, Empty, Plain, Escaped, ArePieces, EmptyPiece, Star, PlainByte, EscapedByte, IsTest, Denotes, DenoteEach, AllOf, AnyOf, NoneOf, Single, Last, More, DenotesFilter, IsFilter, escaped, starred_piece, starred, test_text, joined, level_text, filter_text}
 use Rattle.ldap_filter.specs.declared.test.Test.{Test}
 use Rattle.ldap_filter.specs.declared.test.Test.TheVariants.{Equal, Near, AtLeast, AtMost, Present}
 use Rattle.ldap_filter.specs.declared.filter.Filter.{Filter}

@@ -1,5 +1,5 @@
 -- The texts of filters (RFC 1960; OSGi Core, "Filter Syntax"), with white space and the limits of this product.
-use Rattle.std.specs.Prelude.{◌≡◌, ◌≢◌, ℕ, suc, ◌≤◌, ◌==◌, ◌||◌, not, max, Bool, true, false, List, [], ◌∷◌, ◌++◌, if◌then◌else◌, codes}
+use Rattle.std.specs.Prelude.{◌≡◌, ◌≢◌, ℕ, suc, ◌≤◌, ◌==◌, ◌||◌, not, max, Bool, false, List, [], ◌∷◌, ◌++◌, if◌then◌else◌, codes}
 use Rattle.std.specs.List.{AllPass, flat_map}
 use Rattle.osgi_version.specs.VersionText.{is_white}
 use Rattle.ldap_filter.specs.EnvPairs.{lowered}

@@ -79,7 +79,10 @@ fn lowered(alloc: Global, key: &[u8]) -> Result<Text, NoMemory>
     requires { IsEnvKey key.now }
     ensures { IfOk result (λ low. low ≡ lowered key.now) }
 {
-    let low: Vec<u8> = key.iter().map(|byte| byte.to_ascii_lowercase()).collect(alloc)?;
+    let low: Vec<u8> = key
+        .iter()
+        .map(|byte| byte.to_ascii_lowercase())
+        .collect(alloc)?;
     Text::from_ascii(alloc, low.as_slice())
 }
 

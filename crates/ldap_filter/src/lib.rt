@@ -14,3 +14,6 @@ pub use env::Env;
 pub use env_fault::EnvFault;
 pub use filter::Filter;
 pub use test::Test;
+
+#[cfg(test)]
+mod tests;

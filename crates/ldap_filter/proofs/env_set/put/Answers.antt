@@ -1,5 +1,5 @@
-use Rattle.std.proofs.Common.{◌≡◌, Ok, Err, subst, sym}
-use Rattle.ldap_filter.specs.EnvPlace.{IsPlace, Changes}
+use Rattle.std.proofs.Common.{Ok, Err}
+use Rattle.ldap_filter.specs.EnvPlace.{IsPlace}
 use Rattle.ldap_filter.proofs.EnvChanges.{replaced_at, inserted}
 use Rattle.ldap_filter.proofs.env_set.put.Goals as goal
 

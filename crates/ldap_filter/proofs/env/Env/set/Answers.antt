@@ -1,5 +1,4 @@
-use Rattle.std.proofs.Common.{◌≡◌, ◌≢◌, [], length, ap, sym, ◌∙◌, subst, true≢false}
-use Rattle.ldap_filter.specs.EnvPairs.{IsEnvPair}
+use Rattle.std.proofs.Common.{◌≢◌, []}
 use Rattle.ldap_filter.proofs.EnvKeys.{IsEnvPair-lowered, not_empty}
 use Rattle.ldap_filter.proofs.env.Env.set.Goals as goal
 

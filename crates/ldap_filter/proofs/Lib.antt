@@ -1,5 +1,10 @@
+pub mod EnvChanges
+pub mod EnvKeys
 pub mod EnvLemmas
+pub mod EnvPlaces
 pub mod Folds
 pub mod PieceLemmas
+pub mod ReadsBack
 pub mod Rest
 pub mod SameLength
+pub mod TextLemmas

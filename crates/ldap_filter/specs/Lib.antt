@@ -1,7 +1,10 @@
 pub mod Behind
 pub mod EnvEq
+pub mod EnvFault
 pub mod EnvPairs
+pub mod EnvPlace
 pub mod EnvSeen
+pub mod FilterText
 pub mod Pieces
 pub mod Same
 pub mod SameLaws

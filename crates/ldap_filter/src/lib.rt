@@ -2,11 +2,18 @@
 #![tactic(auto)]
 
 mod env;
+mod env_fault;
+mod env_set;
 mod filter;
 mod pieces;
 mod test;
 mod truth;
+mod writing;
 
 pub use env::Env;
+pub use env_fault::EnvFault;
 pub use filter::Filter;
 pub use test::Test;
+
+#[cfg(test)]
+mod tests;

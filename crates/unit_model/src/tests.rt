@@ -1,5 +1,5 @@
 use super::*;
-use ldap_filter::{Filter, Test};
+use ldap_filter::{Env, Filter, Test};
 use osgi_version::{List, NoMemory, Range, Text, Twin, Version};
 use std::alloc::Global;
 use std::test::Fail;
@@ -225,5 +225,48 @@ fn names_with_other_versions_differ(rt: HostRuntime) -> Result<(), Fail> {
     assert!(rt; other == name);
     other.version.major = 3;
     assert!(rt; other != name);
+    Ok(())
+}
+
+#[test]
+fn a_requirement_is_answered_by_namespace_name_and_version(rt: HostRuntime) -> Result<(), Fail> {
+    let alloc = rt.alloc();
+    let unit = unit(alloc)?;
+    let cases = [
+        ("n", "cap", "1", true),
+        ("n", "cap", "[1,2)", true),
+        ("n", "cap", "1.0.0.r", false),
+        ("n", "cap", "[0,1.0.0.q)", false),
+        ("n", "cap", "2", false),
+        ("n", "other", "1", false),
+        ("m", "cap", "1", false),
+        ("cap", "n", "1", false),
+    ];
+    for (namespace, name, range, wanted) in cases {
+        let mut required = required(alloc)?;
+        required.namespace = text(alloc, namespace)?;
+        required.name = text(alloc, name)?;
+        required.range = Range::parse(alloc, range.as_bytes())?;
+        assert_eq!(rt;
+            matches(&required, &unit),
+            wanted,
+            "{namespace} {name} {range}"
+        );
+    }
+    Ok(())
+}
+
+#[test]
+fn a_unit_applies_where_its_filter_is_true(rt: HostRuntime) -> Result<(), Fail> {
+    let alloc = rt.alloc();
+    let mut unit = unit(alloc)?;
+    let mut env = Env::new(alloc);
+    assert!(rt; !applies(&unit, &env));
+    env.set(b"osgi.os", &text(alloc, "linux")?)?;
+    assert!(rt; applies(&unit, &env));
+    env.set(b"osgi.os", &text(alloc, "win32")?)?;
+    assert!(rt; !applies(&unit, &env));
+    unit.filter = None;
+    assert!(rt; applies(&unit, &env));
     Ok(())
 }

@@ -1,4 +1,4 @@
-use Rattle.std.proofs.Common.{◌≡◌, Some, ap, sym, ◌∙◌, take_all, arith, length-drop, ℕ}
+use Rattle.std.proofs.Common.{Some, ap, sym, ◌∙◌, take_all, arith, length-drop, ℕ}
 use Rattle.ldap_filter.proofs.PieceLemmas.{behind-here}
 use Rattle.ldap_filter.proofs.pieces.behind.Goals as goal
 

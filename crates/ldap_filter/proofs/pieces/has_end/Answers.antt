@@ -1,4 +1,4 @@
-use Rattle.std.proofs.Common.{◌≡◌, ℕ, ◌≤◌, None, Some, Option, ◌∷◌, [], ◌++◌, length, drop, ap, sym, ◌∙◌, arith}
+use Rattle.std.proofs.Common.{◌≡◌, ◌≤◌, None, Some, ◌∷◌, [], ◌++◌, length, ap, sym, ◌∙◌, arith}
 use Rattle.std.proofs.lemmas.List.{drop_all}
 use Rattle.ldap_filter.specs.Behind.{behind}
 use Rattle.ldap_filter.proofs.PieceLemmas.{end_fits, end_fits-nowhere, end_fits-passed, end_fits-last}

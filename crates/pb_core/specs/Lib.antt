@@ -1,0 +1,11 @@
+pub mod AtLeast
+pub mod Fresh
+pub mod Joined
+pub mod Literal
+pub mod Normal
+pub mod Normalised
+pub mod Propagates
+pub mod Satisfied
+pub mod Slack
+pub mod TruthEquality
+pub mod Values

@@ -1,5 +1,8 @@
 pub mod JoinedLaws
+pub mod KeptChanges
+pub mod KeptLaws
 pub mod NormalLaws
+pub mod OccurrenceLaws
 pub mod PropagationLaws
 pub mod SatisfactionLaws
 pub mod SignedSums

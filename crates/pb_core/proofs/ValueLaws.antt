@@ -15,7 +15,7 @@ pub value_of-at : (values : List (Option Bool)) (v : ℕ) → 0 < v → value_of
 value_of-at values v some = grind (arith, nat_tests)
 
 -- another value at one place is read there, or nothing is
-get_or-set_cases : {X : Type 0} (xs : List X) (i j : ℕ) (x d : X) → (get_or (set xs i x) j d ≡ get_or xs j d) ⊎ ((i ≡ j) × (get_or (set xs i x) j d ≡ x))
+pub get_or-set_cases : {X : Type 0} (xs : List X) (i j : ℕ) (x d : X) → (get_or (set xs i x) j d ≡ get_or xs j d) ⊎ ((i ≡ j) × (get_or (set xs i x) j d ≡ x))
 get_or-set_cases xs i j x d =
     ⊎_elim (λ e. ⊎_elim (λ lt. inr (e.1, rw (sym e.1) (rw get_or-set_same refl))) (λ ge. inl (get_or_past (set xs i x) j d (omega (arith, e.1, length-set xs i x)) ∙ sym (get_or_past xs j d (omega (arith, e.1)))))
     (cases_lt i (length xs))) (λ e. let ne : j ≢ i = λ s. absurd (e.1 (sym s)) in inl (rw get_or-set_other refl)) (eqb_tells i j)
@@ -127,3 +127,13 @@ followed (Some b) q r e f = let g = rw e at f in g
 
 pub Includes-through : (a b c : List (Option Bool)) → Includes a b → Includes b c → Includes a c
 Includes-through a b c e f v = followed (value_of a v) (value_of b v) (value_of c v) (e v) (f v)
+
+-- ---- another value of one variable
+
+pub value_of-set_here : (values : List (Option Bool)) (v : ℕ) (x : Option Bool) → 0 < v → v ≤ length values → value_of (set_value values v x) v ≡ x
+value_of-set_here values v x some most =
+    let at = get_or-set_same values (v - 1) x None (omega arith) in
+    grind (arith, nat_tests)
+
+pub value_of-set_elsewhere : (values : List (Option Bool)) (v u : ℕ) (x : Option Bool) → u ≢ v → value_of (set_value values v x) u ≡ value_of values u
+value_of-set_elsewhere values v u x apart = ⊎_elim (λ same. same) (λ here. absurd (apart (sym here.0))) (value_of-set_value values v u x)

@@ -1,0 +1,122 @@
+-- The fields of kept slacks, through each change.
+use Rattle.std.proofs.Common.{◌≡◌, ◌≢◌, ℕ, zero, suc, ◌+◌, ◌-◌, ◌*◌, ◌^◌, ◌<◌, ◌≤◌, Bool, true, false, not, cond, IsTrue, Vec, Global, List, [], ◌∷◌, ◌++◌, length, get_or, take, drop, map, ℤ, pos, ◌+ℤ◌, ◌-ℤ◌, ◌≤ℤ◌, Option, Some, None, is_none, All, refl, sym, ap, subst, ◌∙◌, arith, rules}
+use Rattle.std.proofs.lemmas.Bool.{false≢true}
+use Rattle.std.proofs.lemmas.Grind.{common_steps}
+use Rattle.std.proofs.lemmas.Int.{ints}
+use Rattle.std.proofs.lemmas.List.{get_or-map, length-map, append-nil, get_or_default}
+use Rattle.pb_core.specs.AtLeast.{AtLeast}
+use Rattle.pb_core.specs.KeptView.{IsKept, IsKeepable, row_seen, place_of, lists_seen}
+use Rattle.pb_core.specs.Literal.{complement}
+use Rattle.pb_core.specs.Occurrences.{coefficient, occurrences_from}
+use Rattle.pb_core.specs.Shares.{share_at, AreNumbered}
+use Rattle.pb_core.specs.Slack.{reachable, coef_sum, slack_of}
+use Rattle.pb_core.specs.Values.{value_of, set_value, make_true, is_open}
+use Rattle.pb_core.specs.declared.literal.Lit.{Lit}
+use Rattle.pb_core.specs.declared.occurrences.Occurrence.{Occurrence}
+use Rattle.pb_core.specs.declared.rows.Row.{Row}
+use Rattle.pb_core.proofs.KeptLaws.{occurrences_numbered, reachable_change, reachable-le, coefficient-le, share-occurrences_from}
+use Rattle.pb_core.proofs.ValueLaws.{length-set_value, value_of-set_here, value_of-set_elsewhere}
+
+pub open_none : (o : Option Bool) → is_none o ≡ true → o ≡ None
+open_none None e = refl
+open_none (Some b) e = absurd (false≢true e)
+
+-- what one constraint has of the occurrences of a literal
+pub row_share : (rows : List Row) (lit : Lit) (k : ℕ) (d : Row) → k < length rows → share_at (k + 1) (occurrences_from 1 lit (map row_seen rows)) ≡ coefficient lit (get_or rows k d).terms
+row_share rows lit k d within =
+    let inside : k < length (map row_seen rows) = rw (length-map rows row_seen) within in
+    let share = share-occurrences_from k 1 lit (map row_seen rows) (row_seen d) inside in
+    let same : k + 1 ≡ 1 + k = omega arith in
+    rw same (share ∙ rw (get_or-map row_seen rows k d (row_seen d) within) refl)
+
+pub record HasBounds (slack : ℤ) (share : ℕ) : Type 0 where
+  pub low : pos 0 ≤ℤ (slack +ℤ pos (2 ^ 61))
+  pub high : slack ≤ℤ pos (2 ^ 61)
+  pub share_small : share ≤ 2 ^ 60
+
+pub row_bounds : (rows : List Row) (slacks : List ℤ) (lists : List (List Occurrence)) (values : List (Option Bool)) (lit : Lit) → IsKept rows slacks lists values → (k : ℕ) → k < length rows → HasBounds (get_or slacks k (pos 0)) (share_at (k + 1) (occurrences_from 1 lit (map row_seen rows)))
+row_bounds rows slacks lists values lit kept k within =
+    let d : Row = record { terms = []; degree = 0; greatest = 0 } in
+    let is = kept.right_slacks k d within in
+    let keepable = kept.keepable k d within in
+    let sum = keepable.small_sum in
+    let degree = keepable.small_degree in
+    let most = reachable-le values (get_or rows k d).terms in
+    let part = coefficient-le lit (get_or rows k d).terms in
+    record {
+      low = rw is (omega (arith, ints));
+      high = rw is (omega (arith, ints));
+      share_small = rw (row_share rows lit k d within) (omega (arith, part, sum));
+    }
+
+keepable_same : (n m : ℕ) (c : AtLeast) → n ≡ m → IsKeepable n c → IsKeepable m c
+keepable_same n m c e k = subst (λ x. IsKeepable x c) e k
+
+-- other values, where the slacks changed with them
+changed : (rows : List Row) (slacks after : List ℤ) (lists : List (List Occurrence)) (values now : List (Option Bool)) → IsKept rows slacks lists values → length now ≡ length values → length after ≡ length slacks → ((k : ℕ) (d : Row) → k < length rows → get_or after k (pos 0) ≡ slack_of now (row_seen (get_or rows k d))) → IsKept rows after lists now
+changed rows slacks after lists values now kept size all right = record {
+  few = kept.few;
+  few_values = rw size kept.few_values;
+  keepable = λ k d h. keepable_same (length values) (length now) (row_seen (get_or rows k d)) (sym size) (kept.keepable k d h);
+  greatest = kept.greatest;
+  all_slacks = all ∙ kept.all_slacks;
+  right_slacks = right;
+  all_lists = rw size kept.all_lists;
+  right_lists = λ lit some most. kept.right_lists lit some (rw size at most);
+}
+
+pub assigned : (rows : List Row) (slacks after : List ℤ) (lists : List (List Occurrence)) (values : List (Option Bool)) (lit : Lit) → IsKept rows slacks lists values → is_open values lit ≡ true → 0 < lit.variable → lit.variable ≤ length values → length after ≡ length slacks → ((k : ℕ) → k < length slacks → get_or after k (pos 0) ≡ get_or slacks k (pos 0) -ℤ pos (share_at (k + 1) (occurrences_from 1 (complement lit) (map row_seen rows)))) → IsKept rows after lists (make_true values lit)
+assigned rows slacks after lists values lit kept unset some most all lowered =
+    changed rows slacks after lists values (make_true values lit) kept (length-set_value values lit.variable (Some lit.positive)) all right
+  where
+    right : (k : ℕ) (d : Row) → k < length rows → get_or after k (pos 0) ≡ slack_of (make_true values lit) (row_seen (get_or rows k d))
+    right k d h =
+        let old = kept.right_slacks k d h in
+        let new = lowered k (rw kept.all_slacks h) in
+        let share = row_share rows (complement lit) k d h in
+        let change = reachable_change values (make_true values lit) lit (open_none _ unset) (value_of-set_here values lit.variable (Some lit.positive) some most) (λ u apart. value_of-set_elsewhere values lit.variable u (Some lit.positive) apart) (get_or rows k d).terms in
+        omega (arith, ints)
+
+pub cleared : (rows : List Row) (slacks after : List ℤ) (lists : List (List Occurrence)) (values : List (Option Bool)) (lit : Lit) → IsKept rows slacks lists values → value_of values lit.variable ≡ Some lit.positive → 0 < lit.variable → lit.variable ≤ length values → length after ≡ length slacks → ((k : ℕ) → k < length slacks → get_or after k (pos 0) ≡ get_or slacks k (pos 0) +ℤ pos (share_at (k + 1) (occurrences_from 1 (complement lit) (map row_seen rows)))) → IsKept rows after lists (set_value values lit.variable None)
+cleared rows slacks after lists values lit kept is_set some most all raised =
+    changed rows slacks after lists values (set_value values lit.variable None) kept (length-set_value values lit.variable None) all right
+  where
+    right : (k : ℕ) (d : Row) → k < length rows → get_or after k (pos 0) ≡ slack_of (set_value values lit.variable None) (row_seen (get_or rows k d))
+    right k d h =
+        let old = kept.right_slacks k d h in
+        let new = raised k (rw kept.all_slacks h) in
+        let share = row_share rows (complement lit) k d h in
+        let change = reachable_change (set_value values lit.variable None) values lit (value_of-set_here values lit.variable None some most) is_set (λ u apart. sym (value_of-set_elsewhere values lit.variable u None apart)) (get_or rows k d).terms in
+        omega (arith, ints)
+
+-- what a `&mut` slice of a `Vec` leaves
+pub written : {X : Type 0} (xs new : List X) (n : ℕ) → n ≡ length xs → length new ≡ length xs → take n (new ++ drop (length new) xs) ≡ new
+written xs new n e f = grind (arith, common_steps)
+
+place_within : (lit : Lit) (n : ℕ) → 0 < lit.variable → lit.variable ≤ n → place_of lit < 2 * n
+place_within lit n some most = by lit.positive
+  where
+    by : (b : Bool) → 2 * (lit.variable - 1) + cond b 0 1 < 2 * n
+    by true = omega arith
+    by false = omega arith
+
+-- the list that is read at a literal's place has its occurrences
+pub list_is : (rows : List Row) (slacks : List ℤ) (lists : List (Vec Occurrence Global)) (values : List (Option Bool)) (lit : Lit) (v : Vec Occurrence Global) → IsKept rows slacks (lists_seen lists) values → 0 < lit.variable → lit.variable ≤ length values → v ≡ get_or lists (place_of lit) v → v.items ≡ occurrences_from 1 lit (map row_seen rows)
+list_is rows slacks lists values lit v kept some most is =
+    let size : length lists ≡ 2 * length values = rw (length-map lists (λ (x : Vec Occurrence Global). x.items)) at kept.all_lists in
+    let within : place_of lit < length lists = omega (arith, place_within lit (length values) some most) in
+    ap (λ (x : Vec Occurrence Global). x.items) is ∙ (sym (get_or-map (λ (x : Vec Occurrence Global). x.items) lists (place_of lit) v [] within) ∙ kept.right_lists lit some most)
+
+-- the numbers of a literal's occurrences are those of constraints
+pub list_numbered : (rows : List Row) (slacks : List ℤ) (lists : List (List Occurrence)) (values : List (Option Bool)) (lit : Lit) → IsKept rows slacks lists values → AreNumbered (length slacks) (occurrences_from 1 lit (map row_seen rows))
+list_numbered rows slacks lists values lit kept =
+    let same : length slacks ≡ length (map row_seen rows) = kept.all_slacks ∙ sym (length-map rows row_seen) in
+    rw same (occurrences_numbered lit (map row_seen rows))
+
+-- what the slacks may be, before they change
+pub all_bounds : (rows : List Row) (slacks : List ℤ) (lists : List (List Occurrence)) (values : List (Option Bool)) (lit : Lit) → IsKept rows slacks lists values → (k : ℕ) → k < length slacks → (pos 0 ≤ℤ (get_or slacks k (pos 0) +ℤ pos (2 ^ 62))) × (get_or slacks k (pos 0) ≤ℤ pos (2 ^ 62)) × (share_at (k + 1) (occurrences_from 1 lit (map row_seen rows)) ≤ 2 ^ 61)
+all_bounds rows slacks lists values lit kept k within =
+    let b = row_bounds rows slacks lists values lit kept k (rw (← kept.all_slacks) within) in
+    let low = b.low in
+    let high = b.high in
+    (omega (arith, ints), omega (arith, ints), omega (arith, b.share_small))

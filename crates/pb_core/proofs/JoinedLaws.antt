@@ -1,5 +1,5 @@
 -- Terms that are joined by variables, one after the other.
-use Rattle.std.proofs.Common.{◌≡◌, ◌≢◌, ℕ, zero, suc, ◌+◌, ◌-◌, ◌<◌, ◌≤◌, Bool, true, false, cond, List, [], ◌∷◌, ◌++◌, length, get_or, take, drop, map, fold, sum_by, ℤ, pos, ◌+ℤ◌, All, refl, sym, ap, ◌∙◌, ⊎_elim, arith, rules, add-one, drop-cons, length-drop, get_or-drop}
+use Rattle.std.proofs.Common.{◌≡◌, ◌≢◌, ℕ, suc, ◌+◌, ◌-◌, ◌<◌, ◌≤◌, Bool, true, false, cond, List, [], ◌∷◌, ◌++◌, length, get_or, take, drop, map, sum_by, pos, ◌+ℤ◌, All, refl, sym, ap, ◌∙◌, ⊎_elim, arith, add-one, drop-cons, length-drop, get_or-drop}
 use Rattle.std.specs.List.Sorted.{IsStrictlyIncreasing, IsNonDecreasingBy}
 use Rattle.std.proofs.lemmas.Bool.{cases_lt}
 use Rattle.std.proofs.lemmas.Int.{ints}

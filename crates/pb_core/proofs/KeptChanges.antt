@@ -1,20 +1,26 @@
 -- The fields of kept slacks, through each change.
-use Rattle.std.proofs.Common.{◌≡◌, ◌≢◌, ℕ, zero, suc, ◌+◌, ◌-◌, ◌*◌, ◌^◌, ◌<◌, ◌≤◌, Bool, true, false, not, cond, IsTrue, Vec, Global, List, [], ◌∷◌, ◌++◌, length, get_or, take, drop, map, ℤ, pos, ◌+ℤ◌, ◌-ℤ◌, ◌≤ℤ◌, Option, Some, None, is_none, All, refl, sym, ap, subst, ◌∙◌, arith, rules}
-use Rattle.std.proofs.lemmas.Bool.{false≢true}
+use Rattle.std.proofs.Common.{◌≡◌, ◌≢◌, ℕ, ◌+◌, ◌-◌, ◌*◌, ◌^◌, ◌<◌, ◌≤◌, Bool, true, false, cond, Vec, Global, List, [], ◌∷◌, ◌++◌, length, get_or, take, drop, map, ℤ, pos, ◌+ℤ◌, ◌-ℤ◌, ◌≤ℤ◌, Option, Some, None, is_none, All, AllPairs, ⊎_elim, refl, sym, ap, subst, ◌∙◌, arith}
+use Rattle.std.proofs.Math.Seq.{get_or-append_seam}
+use Rattle.std.proofs.lemmas.Bool.{false≢true, cases_lt}
 use Rattle.std.proofs.lemmas.Grind.{common_steps}
 use Rattle.std.proofs.lemmas.Int.{ints}
-use Rattle.std.proofs.lemmas.List.{get_or-map, length-map, append-nil, get_or_default}
-use Rattle.pb_core.specs.AtLeast.{AtLeast}
+use Rattle.std.proofs.lemmas.List.{get_or-map, length-map, length_push, map-append, get_or_append_left}
+use Rattle.std.proofs.lemmas.List.Elements.{All-push}
+use Rattle.std.proofs.lemmas.List.Kept.{AllPairs-from_increasing}
+use Rattle.std.proofs.lemmas.List.Sums.{sum_by-cons}
+use Rattle.pb_core.specs.AtLeast.{AtLeast, clause}
 use Rattle.pb_core.specs.KeptView.{IsKept, IsKeepable, row_seen, place_of, lists_seen}
 use Rattle.pb_core.specs.Literal.{complement}
-use Rattle.pb_core.specs.Occurrences.{coefficient, occurrences_from}
+use Rattle.pb_core.specs.Normal.{IsNormalOver}
+use Rattle.pb_core.specs.Occurrences.{coefficient, own_occurrence, occurrences_from}
 use Rattle.pb_core.specs.Shares.{share_at, AreNumbered}
-use Rattle.pb_core.specs.Slack.{reachable, coef_sum, slack_of}
+use Rattle.pb_core.specs.Slack.{coef_sum, slack_of, greatest_coef}
 use Rattle.pb_core.specs.Values.{value_of, set_value, make_true, is_open}
 use Rattle.pb_core.specs.declared.literal.Lit.{Lit}
+use Rattle.pb_core.specs.declared.literal.Term.{Term}
 use Rattle.pb_core.specs.declared.occurrences.Occurrence.{Occurrence}
 use Rattle.pb_core.specs.declared.rows.Row.{Row}
-use Rattle.pb_core.proofs.KeptLaws.{occurrences_numbered, reachable_change, reachable-le, coefficient-le, share-occurrences_from}
+use Rattle.pb_core.proofs.KeptLaws.{occurrences_numbered, occurrences_from-push, reachable_change, reachable-le, coefficient-le, share-occurrences_from}
 use Rattle.pb_core.proofs.ValueLaws.{length-set_value, value_of-set_here, value_of-set_elsewhere}
 
 pub open_none : (o : Option Bool) → is_none o ≡ true → o ≡ None
@@ -120,3 +126,82 @@ all_bounds rows slacks lists values lit kept k within =
     let low = b.low in
     let high = b.high in
     (omega (arith, ints), omega (arith, ints), omega (arith, b.share_small))
+
+-- ---- one more constraint
+
+seen_push : (rows : List Row) (row : Row) → map row_seen (rows ++ row ∷ []) ≡ map row_seen rows ++ row_seen row ∷ []
+seen_push rows row = map-append row_seen rows (row ∷ [])
+
+pub appended : (rows : List Row) (slacks : List ℤ) (lists after : List (List Occurrence)) (values : List (Option Bool)) (row : Row) (slack : ℤ) → IsKept rows slacks lists values → length rows < 2000000000 → IsKeepable (length values) (row_seen row) → row.greatest ≡ greatest_coef row.terms → slack ≡ slack_of values (row_seen row) → length after ≡ length lists → ((lit : Lit) → 0 < lit.variable → place_of lit < length lists → get_or after (place_of lit) [] ≡ get_or lists (place_of lit) [] ++ own_occurrence (length rows + 1) lit row.terms) → IsKept (rows ++ row ∷ []) (slacks ++ slack ∷ []) after values
+appended rows slacks lists after values row slack kept few keepable greatest is size entered = record {
+  few = rw length_push (omega arith);
+  few_values = kept.few_values;
+  keepable = All-push (λ (r : Row). IsKeepable (length values) (row_seen r)) rows row kept.keepable keepable;
+  greatest = All-push (λ (r : Row). r.greatest ≡ greatest_coef r.terms) rows row kept.greatest greatest;
+  all_slacks = rw (length_push slacks slack, length_push rows row, kept.all_slacks) refl;
+  right_slacks = right;
+  all_lists = size ∙ kept.all_lists;
+  right_lists = listed;
+}
+  where
+    right : (k : ℕ) (d : Row) → k < length (rows ++ row ∷ []) → get_or (slacks ++ slack ∷ []) k (pos 0) ≡ slack_of values (row_seen (get_or (rows ++ row ∷ []) k d))
+    right k d h = ⊎_elim old new (cases_lt k (length rows))
+      where
+        all : k < length rows + 1
+        all = rw (length_push rows row) at h
+
+        old : k < length rows → get_or (slacks ++ slack ∷ []) k (pos 0) ≡ slack_of values (row_seen (get_or (rows ++ row ∷ []) k d))
+        old lt =
+            let one = get_or_append_left slacks (slack ∷ []) (pos 0) k (rw kept.all_slacks lt) in
+            let two = get_or_append_left rows (row ∷ []) d k lt in
+            rw (one, two) (kept.right_slacks k d lt)
+
+        new : length rows ≤ k → get_or (slacks ++ slack ∷ []) k (pos 0) ≡ slack_of values (row_seen (get_or (rows ++ row ∷ []) k d))
+        new ge =
+            let one : get_or (slacks ++ slack ∷ []) (length slacks) (pos 0) ≡ slack = get_or-append_seam slacks slack [] (pos 0) in
+            let two : get_or (rows ++ row ∷ []) (length rows) d ≡ row = get_or-append_seam rows row [] d in
+            let at : k ≡ length rows = omega (arith, all) in
+            let one' = rw kept.all_slacks at one in
+            rw (at, one', two) is
+
+    listed : (lit : Lit) → 0 < lit.variable → lit.variable ≤ length values → get_or after (place_of lit) [] ≡ occurrences_from 1 lit (map row_seen (rows ++ row ∷ []))
+    listed lit some most =
+        let within : place_of lit < length lists = omega (arith, place_within lit (length values) some most, kept.all_lists) in
+        let new = entered lit some within in
+        let old = kept.right_lists lit some most in
+        let push = occurrences_from-push 1 lit (map row_seen rows) (row_seen row) in
+        let count : 1 + length (map row_seen rows) ≡ length rows + 1 = omega (arith, length-map rows row_seen) in
+        rw (seen_push rows row, push, count) (new ∙ rw old refl)
+
+-- ---- constraints that can be kept
+
+pub keepable_normal : (variables : ℕ) (c : AtLeast) → IsNormalOver variables c → IsKeepable variables c
+keepable_normal variables c n = record {
+  among = n.among;
+  coefs = λ k d h. (n.normal.coefs k d h).0;
+  distinct = λ i j d lt h. let pairs = AllPairs-from_increasing (map (λ u. u.lit.variable) c.terms) n.normal.rising i j 0 lt (rw (length-map c.terms (λ (u : Term). u.lit.variable)) h) in let one : get_or (map (λ u. u.lit.variable) c.terms) i 0 ≡ (get_or c.terms i d).lit.variable = get_or-map (λ (u : Term). u.lit.variable) c.terms i d 0 (omega arith) in let two : get_or (map (λ u. u.lit.variable) c.terms) j 0 ≡ (get_or c.terms j d).lit.variable = get_or-map (λ (u : Term). u.lit.variable) c.terms j d 0 h in λ e. absurd (omega (arith, pairs, one, two));
+  small_sum = omega (arith, n.normal.small_sum);
+  small_degree = n.normal.small_degree;
+}
+
+clause_coefs : (lits : List Lit) → coef_sum (clause lits).terms ≡ length lits
+clause_coefs [] = refl
+clause_coefs (lit ∷ lits) =
+    let cons = sum_by-cons (λ (u : Term). u.coef) (record { coef = 1; lit = lit }) (clause lits).terms in
+    let rest = clause_coefs lits in
+    omega arith
+
+pub keepable_clause : (variables : ℕ) (lits : List Lit) → All (λ l. (0 < l.variable) × (l.variable ≤ variables)) lits → AllPairs (λ a b. a.variable ≢ b.variable) lits → length lits ≤ 2 ^ 60 → IsKeepable variables (clause lits)
+keepable_clause variables lits among distinct few = record {
+  among = λ k d h. rw (at k d h) (among k d.lit (size k h));
+  coefs = λ k d h. rw (at k d h) (omega arith);
+  distinct = λ i j d lt h. rw (at i d (omega arith), at j d h) (distinct i j d.lit lt (size j h));
+  small_sum = rw (clause_coefs lits) few;
+  small_degree = omega arith;
+}
+  where
+    size : (k : ℕ) → k < length (clause lits).terms → k < length lits
+    size k h = rw (length-map {B = Term} lits (λ (l : Lit). record { coef = 1; lit = l })) at h
+
+    at : (k : ℕ) (d : Term) → k < length (clause lits).terms → get_or (clause lits).terms k d ≡ record { coef = 1; lit = get_or lits k d.lit }
+    at k d h = get_or-map {Y = Term} (λ (l : Lit). record { coef = 1; lit = l }) lits k d.lit d (size k h)

@@ -1,9 +1,7 @@
 -- What the normal form says, against the terms that it was made from.
-use Rattle.std.proofs.Common.{◌≡◌, ◌≢◌, ℕ, zero, suc, ◌+◌, ◌-◌, ◌*◌, ◌^◌, ◌<◌, ◌≤◌, Bool, true, false, not, cond, eqb, List, [], ◌∷◌, ◌++◌, length, get_or, map, min, sum_by, ℤ, pos, negsuc, ◌+ℤ◌, ◌≤ℤ◌, All, AllPairs, ◌↔◌, refl, sym, ap, ◌∙◌, arith, rules}
+use Rattle.std.proofs.Common.{◌≡◌, ℕ, suc, ◌+◌, ◌*◌, ◌^◌, ◌<◌, ◌≤◌, Bool, true, false, not, cond, eqb, List, [], ◌∷◌, length, get_or, map, min, sum_by, ℤ, pos, negsuc, ◌≤ℤ◌, All, AllPairs, ◌↔◌, refl, sym, ◌∙◌, arith}
 use Rattle.std.specs.Int.RustNames.{unsigned_abs}
 use Rattle.std.proofs.Math.Nat.{mul-le-mul_right}
-use Rattle.std.specs.List.Sorted.{IsStrictlyIncreasing}
-use Rattle.std.proofs.lemmas.Bool.{false≢true}
 use Rattle.std.proofs.lemmas.Bool.Decides.{nat_tests}
 use Rattle.std.proofs.lemmas.Int.{ints}
 use Rattle.std.proofs.lemmas.List.{get_or-map, length-map}
@@ -14,7 +12,7 @@ use Rattle.std.proofs.lemmas.List.Sums.{sum_by-cons, sum_by-le}
 use Rattle.pb_core.specs.AtLeast.{AtLeast}
 use Rattle.pb_core.specs.Literal.{holds}
 use Rattle.pb_core.specs.Normal.{IsNormal, AreAmong}
-use Rattle.pb_core.specs.Normalised.{IsNormalised, IsSatisfiedSigned, AreSignedAmong, IsModerate, signed_sum, clipped}
+use Rattle.pb_core.specs.Normalised.{IsNormalised, IsSatisfiedSigned, AreSignedAmong, IsModerate, clipped}
 use Rattle.pb_core.specs.Joined.{IsPrepared, signed_size}
 use Rattle.pb_core.specs.Satisfied.{IsSatisfied, true_sum}
 use Rattle.pb_core.specs.Slack.{coef_sum}

@@ -1,15 +1,15 @@
 -- Occurrences that are entered one after the other, and slacks that they change.
-use Rattle.std.proofs.Common.{◌≡◌, ◌≢◌, ℕ, zero, suc, ◌+◌, ◌-◌, ◌*◌, ◌^◌, ◌<◌, ◌≤◌, Bool, true, false, not, cond, eqb, ltb, ◌&&◌, List, [], ◌∷◌, ◌++◌, length, get_or, set, take, map, sum_by, ℤ, pos, ◌+ℤ◌, ◌-ℤ◌, ◌≤ℤ◌, All, AllPairs, Vec, vec_len, vec_capacity, Global, refl, sym, ap, ◌∙◌, inl, inr, ◌⊎◌, ⊎_elim, append-nil, arith, rules, get_or-set_other, get_or-set_same}
+use Rattle.std.proofs.Common.{◌≡◌, ◌≢◌, ℕ, ◌+◌, ◌-◌, ◌*◌, ◌<◌, ◌≤◌, Bool, true, false, cond, eqb, ltb, ◌&&◌, List, [], ◌∷◌, ◌++◌, length, get_or, set, take, ℤ, pos, ◌+ℤ◌, ◌-ℤ◌, All, AllPairs, Vec, vec_len, vec_capacity, Global, refl, sym, ◌∙◌, inl, inr, ◌⊎◌, ⊎_elim, append-nil, arith, get_or-set_other, get_or-set_same}
 use Rattle.std.proofs.lemmas.Bool.{false≢true, cases_lt}
 use Rattle.std.proofs.lemmas.Bool.Decides.{nat_tests, eqb_tells}
 use Rattle.std.proofs.lemmas.Int.{ints}
-use Rattle.std.proofs.lemmas.List.{map-set, take_more, length-map, get_or-take, get_or-map, get_or_default, length-take}
+use Rattle.std.proofs.lemmas.List.{map-set, length-map, get_or-take, get_or-map, get_or_default, length-take}
 use Rattle.std.proofs.lemmas.List.Elements.{All-head, All-tail}
-use Rattle.std.proofs.lemmas.List.Sums.{sum_by-cons, sum_by_push, sum_by_more, sum_by_more_le, sum_by-take-le, get_or-le-sum_by}
+use Rattle.std.proofs.lemmas.List.Sums.{sum_by-cons, sum_by_more, sum_by_more_le, sum_by-take-le, get_or-le-sum_by}
 use Rattle.pb_core.specs.KeptView.{place_of, lists_seen}
 use Rattle.pb_core.specs.Literal.{same_literal, same_truth}
 use Rattle.pb_core.specs.Occurrences.{coefficient, own_occurrence}
-use Rattle.pb_core.specs.Shares.{share_at, HasRoom, HaveRoom, AreNumbered}
+use Rattle.pb_core.specs.Shares.{share_at, HasRoom, HaveRoom}
 use Rattle.pb_core.specs.declared.literal.Lit.{Lit}
 use Rattle.pb_core.specs.declared.literal.Term.{Term}
 use Rattle.pb_core.specs.declared.occurrences.Occurrence.{Occurrence}

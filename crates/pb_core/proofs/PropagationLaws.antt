@@ -1,15 +1,14 @@
 -- Propagation is sound, and where it ends doesn't depend on its order.
-use Rattle.std.proofs.Common.{◌≡◌, ℕ, zero, suc, ◌+◌, ◌<◌, ◌≤◌, Bool, true, false, not, cond, IsTrue, List, [], ◌∷◌, length, get_or, sum_by, fold, max, pos, ◌≤ℤ◌, is_none, Option, Some, None, Contains, All, refl, sym, ap, ◌∙◌, inl, inr, ◌⊎◌, ⊎_elim, arith, rules}
+use Rattle.std.proofs.Common.{◌≡◌, ℕ, zero, suc, ◌+◌, ◌<◌, ◌≤◌, Bool, true, false, cond, IsTrue, List, [], ◌∷◌, length, get_or, fold, max, pos, ◌≤ℤ◌, is_none, Option, Some, None, Contains, All, refl, ◌∙◌, arith}
 use Rattle.std.proofs.lemmas.Bool.{false≢true}
 use Rattle.std.proofs.lemmas.Int.{ints}
 use Rattle.std.proofs.lemmas.List.Sums.{sum_by-cons, sum_by-le-sum_by}
 use Rattle.std.proofs.lemmas.List.Elements.{All-contains, All-head, All-tail}
 use Rattle.pb_core.specs.AtLeast.{AtLeast, clause}
 use Rattle.pb_core.specs.Fresh.{Fresh}
-use Rattle.pb_core.specs.Literal.{holds}
 use Rattle.pb_core.specs.Satisfied.{IsSatisfied, SatisfiesAll}
 use Rattle.pb_core.specs.Slack.{reachable, slack_of, greatest_coef, IsViolated, Forces}
-use Rattle.pb_core.specs.Values.{value_of, is_false, is_open, make_true, has_truth, Completes, Includes}
+use Rattle.pb_core.specs.Values.{value_of, is_false, make_true, Completes, Includes}
 use Rattle.pb_core.specs.Propagates.{Propagates, nothing, forced, IsAtRest, SettlesAt, ReachesViolation}
 use Rattle.pb_core.specs.declared.literal.Lit.{Lit}
 use Rattle.pb_core.specs.declared.literal.Term.{Term}

@@ -1,14 +1,14 @@
 -- What a constraint under some values says of the full assignments that complete them.
-use Rattle.std.proofs.Common.{◌≡◌, ℕ, zero, suc, ◌+◌, ◌<◌, ◌≤◌, Bool, true, false, cond, IsTrue, List, [], ◌∷◌, ◌++◌, length, get_or, map, sum_by, Option, Contains, All, ◌↔◌, ◌||◌, refl, sym, ap, ◌∙◌, arith, rules}
+use Rattle.std.proofs.Common.{◌≡◌, ℕ, ◌+◌, ◌≤◌, Bool, true, false, cond, List, [], ◌∷◌, ◌++◌, Option, ◌||◌, refl, sym, arith}
 use Rattle.std.specs.List.{list_any}
 use Rattle.std.proofs.lemmas.Bool.{false≢true}
 use Rattle.std.proofs.lemmas.List.Sums.{sum_by-cons, sum_by-le-sum_by}
-use Rattle.std.proofs.lemmas.List.Elements.{All-push, All-contains}
+use Rattle.std.proofs.lemmas.List.Elements.{All-push}
 use Rattle.pb_core.specs.AtLeast.{AtLeast, clause}
 use Rattle.pb_core.specs.Literal.{holds}
-use Rattle.pb_core.specs.Satisfied.{true_sum, IsSatisfied, SatisfiesAll, MakesTrue, Follows}
+use Rattle.pb_core.specs.Satisfied.{true_sum, IsSatisfied, MakesTrue, Follows}
 use Rattle.pb_core.specs.Slack.{reachable, IsViolated, Forces}
-use Rattle.pb_core.specs.Values.{is_false, is_open, Completes}
+use Rattle.pb_core.specs.Values.{is_false, Completes}
 use Rattle.pb_core.specs.declared.literal.Lit.{Lit}
 use Rattle.pb_core.specs.declared.literal.Term.{Term}
 use Rattle.pb_core.proofs.SumLaws.{sum_by-less}

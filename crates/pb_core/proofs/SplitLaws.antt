@@ -1,5 +1,5 @@
 -- Joined terms that become terms with positive coefficients, one after the other.
-use Rattle.std.proofs.Common.{◌≡◌, ◌≢◌, ℕ, zero, suc, ◌+◌, ◌-◌, ◌<◌, ◌≤◌, Bool, true, false, cond, List, [], ◌∷◌, ◌++◌, length, get_or, take, drop, map, sum_by, ℤ, pos, ◌+ℤ◌, ◌≤ℤ◌, All, refl, sym, ap, ◌∙◌, arith, rules, add-one, drop-cons, length-drop, get_or-drop}
+use Rattle.std.proofs.Common.{◌≡◌, ℕ, suc, ◌+◌, ◌<◌, ◌≤◌, Bool, true, false, cond, List, [], ◌∷◌, ◌++◌, length, get_or, take, drop, map, ℤ, pos, ◌+ℤ◌, ◌≤ℤ◌, All, refl, sym, ap, ◌∙◌, arith, add-one, drop-cons, length-drop, get_or-drop}
 use Rattle.std.specs.List.Sorted.{IsStrictlyIncreasing}
 use Rattle.std.proofs.lemmas.Int.{ints}
 use Rattle.std.proofs.lemmas.List.{take_more, get_or-map, length-map}

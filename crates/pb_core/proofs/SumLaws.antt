@@ -1,5 +1,5 @@
 -- Sums of which one is larger by a number at one place.
-use Rattle.std.proofs.Common.{◌≡◌, ℕ, zero, suc, ◌+◌, ◌<◌, ◌≤◌, List, [], ◌∷◌, length, get_or, sum_by, arith}
+use Rattle.std.proofs.Common.{ℕ, zero, suc, ◌+◌, ◌<◌, ◌≤◌, List, [], ◌∷◌, length, get_or, sum_by, arith}
 use Rattle.std.proofs.lemmas.List.Sums.{sum_by-cons, sum_by-le-sum_by}
 
 pub sum_by-less : {X : Type 0} (f g : X → ℕ) (xs : List X) (i : ℕ) (d : X) (k : ℕ) → i < length xs → ((x : X) → f x ≤ g x) → f (get_or xs i d) + k ≤ g (get_or xs i d) → sum_by f xs + k ≤ sum_by g xs

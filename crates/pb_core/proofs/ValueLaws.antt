@@ -1,11 +1,11 @@
 -- What values say of literals, and what another value of one variable changes.
-use Rattle.std.proofs.Common.{◌≡◌, ◌≢◌, ℕ, zero, suc, ◌+◌, ◌-◌, ◌<◌, ◌≤◌, Bool, true, false, not, cond, eqb, IsTrue, List, length, get_or, set, Option, Some, None, IfSome, is_none, refl, sym, ap, ◌∙◌, inl, inr, ◌⊎◌, ⊎_elim, arith, rules, get_or-set_other, get_or-set_same}
+use Rattle.std.proofs.Common.{◌≡◌, ◌≢◌, ℕ, ◌-◌, ◌<◌, ◌≤◌, Bool, true, false, not, cond, List, length, get_or, set, Option, Some, None, IfSome, is_none, refl, sym, ap, ◌∙◌, inl, inr, ◌⊎◌, ⊎_elim, arith, get_or-set_other, get_or-set_same}
 use Rattle.std.proofs.Math.ListN.{length-set}
 use Rattle.std.proofs.lemmas.Bool.{cases_lt, false≢true}
 use Rattle.std.proofs.lemmas.Bool.Decides.{nat_tests, eqb_tells}
 use Rattle.std.proofs.lemmas.List.{get_or_past}
 use Rattle.pb_core.specs.Literal.{holds, same_truth}
-use Rattle.pb_core.specs.Values.{value_of, set_value, make_true, has_truth, is_true, is_false, is_open, Completes, Includes}
+use Rattle.pb_core.specs.Values.{value_of, set_value, make_true, has_truth, is_false, is_open, Completes, Includes}
 use Rattle.pb_core.specs.declared.literal.Lit.{Lit}
 
 pub value_of-zero : (values : List (Option Bool)) → value_of values 0 ≡ None

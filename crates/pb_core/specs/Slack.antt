@@ -1,5 +1,5 @@
 -- Constraints under values that may leave variables open.
-use Rattle.std.specs.Prelude.{◌≡◌, ℕ, ◌+◌, ◌<◌, ℤ, pos, ◌-ℤ◌, Bool, IsTrue, List, Option, Contains, sum_by, fold, max, if◌then◌else◌}
+use Rattle.std.specs.Prelude.{ℕ, ◌+◌, ◌<◌, ℤ, pos, ◌-ℤ◌, Bool, IsTrue, List, Option, Contains, sum_by, fold, max, if◌then◌else◌}
 use Rattle.pb_core.specs.AtLeast.{AtLeast}
 use Rattle.pb_core.specs.Values.{is_false, is_open}
 use Rattle.pb_core.specs.declared.literal.Lit.{Lit}

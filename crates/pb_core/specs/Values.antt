@@ -1,5 +1,5 @@
 -- Values of variables that are numbered from 1: the n-th value is that of variable n.
-use Rattle.std.specs.Prelude.{◌≡◌, ℕ, ◌-◌, ◌==◌, Bool, true, false, not, List, Option, Some, None, is_none, IfSome, slice_index_or, slice_set, if◌then◌else◌}
+use Rattle.std.specs.Prelude.{◌≡◌, ℕ, ◌-◌, ◌==◌, Bool, false, not, List, Option, Some, None, is_none, IfSome, slice_index_or, slice_set, if◌then◌else◌}
 use Rattle.pb_core.specs.declared.literal.Lit.{Lit}
 use Rattle.pb_core.specs.Literal.{same_truth}
 

@@ -11,7 +11,7 @@ ghost use Rattle.pb_core.specs.Values.{value_of, set_value, make_true, is_open};
 use crate::assignment::Assignment;
 use crate::constraint::Problem;
 use crate::literal::{Lit, Term};
-use crate::occurrences::{Occurrence, enter, lower, make_room, place_of, raise};
+use crate::occurrences::{Occurrence, empty_lists, enter, lower, place_of, raise, reserve};
 use crate::rows::{Row, greatest_coef};
 use crate::slacks::reachable;
 use crate::steps::Steps;
@@ -147,4 +147,86 @@ impl Kept {
         raise(&mut self.slacks, self.lists[place].as_slice(), steps);
         self.values.set(variable, None);
     }
+
+    /// No constraint, and this many variables.
+    fn empty(alloc: Global, variables: u32) -> Result<Kept, NoMemory>
+        ensures constraints { IfOk result (λ kept. kept.constraints ≡ []) }
+        ensures values { IfOk result (λ kept. kept.values ≡ replicate variables None) }
+    {
+        let values = Assignment::new(alloc, variables)?;
+        let lists = empty_lists(alloc, 2 * variables as usize)?;
+        Ok(Kept {
+            values,
+            rows: Vec::new(alloc),
+            slacks: Vec::new(alloc),
+            lists,
+        })
+    }
+
+    /// Adds a constraint at the end. An `Err` changes nothing.
+    fn append(&mut self, terms: List<Term>, degree: u64) -> Result<(), NoMemory>
+        requires few { length self.old.constraints < 2000000000 }
+        requires keepable { IsKeepable (length self.old.values) (record { terms = terms; degree = degree }) }
+        ensures constraints { OnOk result (self.new.constraints ≡ self.old.constraints ++ record { terms = terms; degree = degree } ∷ []) }
+        ensures values { self.new.values ≡ self.old.values }
+        ensures err { OnErr result (self.new ≡ self.old) }
+    {
+        let number = self.rows.len() as u32 + 1;
+        let slack = reachable(terms.items(), &self.values) as i64 - degree as i64;
+        let greatest = greatest_coef(terms.items());
+        reserve(
+            &mut self.rows,
+            &mut self.slacks,
+            &mut self.lists,
+            terms.items(),
+        )?;
+        enter(&mut self.lists, terms.items(), number);
+        self.slacks.push_reserved(slack);
+        self.rows.push_reserved(Row {
+            terms,
+            degree,
+            greatest,
+        });
+        Ok(())
+    }
+
+    /// The constraints of a problem, with no variable assigned. Takes time and memory in line with the problem.
+    pub fn new(alloc: Global, problem: &Problem) -> Result<Kept, NoMemory>
+        requires labels { length problem.now.labels ≤ 1000000000 }
+        requires constraints { length problem.now.constraints ≤ 1000000000 }
+        requires normal { All (λ c. IsNormalOver (length problem.now.labels) (at_least c)) problem.now.constraints }
+        ensures constraints { IfOk result (λ kept. kept.constraints ≡ map at_least problem.now.constraints) }
+        ensures values { IfOk result (λ kept. kept.values ≡ replicate (length problem.now.labels) None) }
+    {
+        let mut kept = Kept::empty(alloc, problem.labels.len() as u32)?;
+        let constraints = problem.constraints.items();
+        for constraint in constraints {
+            kept.append(constraint.terms.copy()?, constraint.degree)?;
+        }
+        Ok(kept)
+    }
+
+    /// Adds the constraint that a literal of the clause is true. An `Err` changes nothing.
+    pub fn add(&mut self, lits: &List<Lit>) -> Result<(), NoMemory>
+        requires among { All (λ l. (0 < l.variable) × (l.variable ≤ length self.old.values)) lits.now }
+        requires distinct { AllPairs (λ a b. a.variable ≢ b.variable) lits.now }
+        requires few { length self.old.constraints < 2000000000 }
+        ensures constraints { OnOk result (self.new.constraints ≡ self.old.constraints ++ clause lits.now ∷ []) }
+        ensures values { self.new.values ≡ self.old.values }
+        ensures err { OnErr result (self.new ≡ self.old) }
+    {
+        let terms = clause_terms(*self.rows.allocator(), lits.items())?;
+        self.append(terms, 1)
+    }
+}
+
+/// The terms of a clause's constraint.
+fn clause_terms(alloc: Global, lits: &[Lit]) -> Result<List<Term>, NoMemory>
+    ensures { IfOk result (λ terms. terms ≡ (clause lits.now).terms) }
+{
+    let mut terms = List::new(alloc);
+    for lit in lits {
+        terms.push(Term { coef: 1, lit: *lit })?;
+    }
+    Ok(terms)
 }

@@ -20,3 +20,6 @@ pub use normal_form::normalise;
 pub use occurrences::Occurrence;
 pub use slacks::slack;
 pub use steps::Steps;
+
+#[cfg(test)]
+mod tests;

@@ -1,4 +1,4 @@
-ghost use Rattle.std.specs.Prelude.{◌≡◌, ◌≢◌, ◌+◌, ◌-◌, ◌*◌, ◌^◌, ◌<◌, ◌≤◌, ℕ, pos, ◌+ℤ◌, ◌-ℤ◌, ◌≤ℤ◌, [], ◌++◌, length, All, AllPairs, OnOk, OnErr, slice_index_or};
+ghost use Rattle.std.specs.Prelude.{◌≡◌, ◌≢◌, ◌+◌, ◌-◌, ◌*◌, ◌^◌, ◌<◌, ◌≤◌, ℕ, pos, ◌+ℤ◌, ◌-ℤ◌, ◌≤ℤ◌, [], ◌++◌, length, All, AllPairs, OnOk, OnErr, IfOk, slice_index_or, replicate, vec_len, vec_capacity};
 ghost use Rattle.pb_core.specs.KeptView.{place_of, lists_seen};
 ghost use Rattle.pb_core.specs.Normal.{AreAmong};
 ghost use Rattle.pb_core.specs.Occurrences.{own_occurrence};
@@ -6,8 +6,10 @@ ghost use Rattle.pb_core.specs.Shares.{share_at, HasRoom, HaveRoom, AreNumbered}
 ghost use Rattle.pb_core.specs.declared.literal.Lit.{Lit as Literal};
 
 use crate::literal::{Lit, Term};
+use crate::rows::Row;
 use crate::steps::Steps;
 use osgi_version::{NoMemory, Twin};
+use std::alloc::Global;
 use std::sync::ledger::Ledger;
 
 /// A constraint that holds a literal: its number, from 1, and the literal's coefficient there.
@@ -88,4 +90,36 @@ pub(crate) fn enter(lists: &mut [Vec<Occurrence>], terms: &[Term], number: u32)
         let coef = term.coef;
         lists[place_of(term.lit)].push_reserved(Occurrence { number, coef });
     }
+}
+
+/// Room for one more constraint. All stays, whatever the result.
+pub(crate) fn reserve(
+    rows: &mut Vec<Row>,
+    slacks: &mut Vec<i64>,
+    lists: &mut Vec<Vec<Occurrence>>,
+    terms: &[Term],
+) -> Result<(), NoMemory>
+    requires { All (λ t. (0 < t.lit.variable) × (place_of t.lit < vec_len lists.old)) terms.now }
+    ensures rows { rows.new.items ≡ rows.old.items }
+    ensures slacks { slacks.new.items ≡ slacks.old.items }
+    ensures lists { lists_seen lists.new.items ≡ lists_seen lists.old.items }
+    ensures rows_room { OnOk result (vec_len rows.new < vec_capacity rows.new) }
+    ensures slacks_room { OnOk result (vec_len slacks.new < vec_capacity slacks.new) }
+    ensures lists_room { OnOk result (HaveRoom lists.new.items terms.now 0) }
+{
+    rows.reserve(1)?;
+    slacks.reserve(1)?;
+    make_room(lists, terms)?;
+    Ok(())
+}
+
+/// No occurrence of any literal.
+pub(crate) fn empty_lists(alloc: Global, count: usize) -> Result<Vec<Vec<Occurrence>>, NoMemory>
+    ensures { IfOk result (λ v. lists_seen v.items ≡ replicate count []) }
+{
+    let mut lists = Vec::new(alloc);
+    for _place in 0..count {
+        lists.push(Vec::new(alloc))?;
+    }
+    Ok(lists)
 }

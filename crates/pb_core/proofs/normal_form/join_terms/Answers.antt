@@ -1,10 +1,10 @@
-use Rattle.std.proofs.Common.{◌≡◌, ℕ, ◌≤◌, false, List, [], ◌∷◌, ◌++◌, length, get_or, pos, ◌∙◌, refl, arith}
+use Rattle.std.proofs.Common.{◌≡◌, ◌≤◌, false, get_or, pos, ◌∙◌, refl, arith}
 use Rattle.std.proofs.lemmas.List.{get_or_default}
 use Rattle.std.proofs.lemmas.List.Elements.{All-push}
 use Rattle.pb_core.specs.Joined.{size}
 use Rattle.pb_core.specs.declared.literal.SignedTerm.{SignedTerm}
 use Rattle.pb_core.specs.declared.normal_form.Joined.{Joined}
-use Rattle.pb_core.proofs.JoinedLaws.{Turned, same_variable, next_variable, join_step, rising_push}
+use Rattle.pb_core.proofs.JoinedLaws.{same_variable, next_variable, join_step, rising_push}
 use Rattle.pb_core.proofs.normal_form.join_terms.Goals as goal
 use Rattle.pb_core.proofs.normal_form.join_terms.Goals.{then-term-current+in_ok-push, else-term-current}
 

@@ -1,13 +1,11 @@
-use Rattle.std.proofs.Common.{◌≡◌, ℕ, ◌<◌, ◌≤◌, Bool, List, ℤ, pos, ◌↔◌, ◌∙◌, sym, refl, arith}
+use Rattle.std.proofs.Common.{◌≡◌, ◌∙◌, refl, arith}
 use Rattle.std.specs.Int.RustNames.{unsigned_abs}
 use Rattle.std.proofs.lemmas.Int.{ints, to_z-of_z}
 use mir.Syntax.{w64}
 use mir.Val.{to_z, of_z}
 use Rattle.pb_core.specs.AtLeast.{AtLeast}
 use Rattle.pb_core.specs.Joined.{IsPrepared}
-use Rattle.pb_core.specs.Normal.{IsNormal}
 use Rattle.pb_core.specs.Normalised.{IsNormalised, clipped}
-use Rattle.pb_core.specs.declared.literal.Term.{Term}
 use Rattle.pb_core.proofs.NormalLaws.{prepared_normalised, prepared_normal, prepared_among, normalised_same, normalised_some}
 use Rattle.pb_core.proofs.normal_form.normalise.Goals as goal
 use Rattle.pb_core.proofs.normal_form.normalise.Goals.{After-drop-positive-2}

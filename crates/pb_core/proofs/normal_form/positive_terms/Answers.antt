@@ -1,10 +1,10 @@
-use Rattle.std.proofs.Common.{◌≡◌, ℕ, zero, suc, ◌+◌, ◌<◌, ◌≤◌, true, false, List, [], ◌∷◌, ◌++◌, length, get_or, take, drop, pos, ◌+ℤ◌, ◌-ℤ◌, ◌≤ℤ◌, refl, sym, ◌∙◌, arith}
-use Rattle.std.proofs.lemmas.Int.{ints, to_z-of_z}
+use Rattle.std.proofs.Common.{get_or, pos, refl, arith}
+use Rattle.std.proofs.lemmas.Int.{ints}
 use Rattle.std.proofs.lemmas.List.{get_or_default}
 use Rattle.std.proofs.lemmas.List.Sums.{get_or-le-sum_by, sum_by-take-le}
-use Rattle.pb_core.specs.Joined.{size, weight}
+use Rattle.pb_core.specs.Joined.{size}
 use Rattle.pb_core.specs.declared.normal_form.Joined.{Joined}
-use Rattle.pb_core.proofs.SplitLaws.{Put, put_away, left_out, split_step}
+use Rattle.pb_core.proofs.SplitLaws.{put_away, left_out, split_step}
 use Rattle.pb_core.proofs.normal_form.positive_terms.Goals as goal
 use Rattle.pb_core.proofs.normal_form.positive_terms.Goals.{then-term-gt0+in_ok-push, else-term-gt0}
 

@@ -1,8 +1,6 @@
-use Rattle.std.proofs.Common.{◌≡◌, ℕ, ◌<◌, ◌++◌, ◌∷◌, [], false, length, get_or, set, Vec, Global, refl, sym, ap, ◌∙◌, arith}
+use Rattle.std.proofs.Common.{◌<◌, false, length, get_or, arith}
 use Rattle.std.proofs.lemmas.List.{get_or_default}
-use Rattle.pb_core.specs.KeptView.{place_of, lists_seen}
 use Rattle.pb_core.specs.declared.literal.Term.{Term}
-use Rattle.pb_core.specs.declared.occurrences.Occurrence.{Occurrence}
 use Rattle.pb_core.proofs.OccurrenceLaws.{enter_step, enter_room}
 use Rattle.pb_core.proofs.occurrences.enter.Goals as goal
 

@@ -1,4 +1,4 @@
-use Rattle.std.proofs.Common.{◌≡◌, ℕ, ◌<◌, [], ◌++◌, length, take, get_or}
+use Rattle.std.proofs.Common.{◌≡◌, ◌<◌, [], ◌++◌, length, take, get_or}
 use Rattle.pb_core.specs.KeptView.{lists_seen, place_of}
 use Rattle.pb_core.specs.Occurrences.{own_occurrence}
 use Rattle.pb_core.specs.Shares.{HaveRoom}

@@ -1,8 +1,5 @@
-use Rattle.std.proofs.Common.{◌≡◌, ℕ, ◌+◌, ◌<◌, ◌≤◌, false, get_or, set, refl, sym, ap, ◌∙◌, arith, below_more}
+use Rattle.std.proofs.Common.{false, ◌∙◌, arith}
 use Rattle.std.proofs.Math.Seq.{map-set_same}
-use Rattle.pb_core.specs.KeptView.{place_of, lists_seen}
-use Rattle.pb_core.specs.declared.occurrences.Occurrence.{Occurrence}
-use Rattle.pb_core.specs.declared.literal.Term.{Term}
 use Rattle.pb_core.proofs.OccurrenceLaws.{room_step}
 use Rattle.pb_core.proofs.occurrences.make_room.Goals as goal
 

@@ -1,8 +1,8 @@
-use Rattle.std.proofs.Common.{◌≡◌, ℕ, ◌+◌, ◌-◌, ◌<◌, ◌≤◌, ℤ, pos, length, get_or, refl, sym, arith}
+use Rattle.std.proofs.Common.{◌≡◌, ◌+◌, ◌-◌, ◌<◌, length, get_or, arith}
 use Rattle.std.proofs.lemmas.Int.{ints}
 use Rattle.std.proofs.lemmas.List.{get_or_default}
 use Rattle.pb_core.specs.declared.occurrences.Occurrence.{Occurrence}
-use Rattle.pb_core.proofs.OccurrenceLaws.{raise_step, share_has, share_next, share_part}
+use Rattle.pb_core.proofs.OccurrenceLaws.{raise_step, share_has, share_next}
 use Rattle.pb_core.proofs.occurrences.raise.Goals as goal
 
 abbrev none : Occurrence

@@ -1,7 +1,6 @@
-use Rattle.std.proofs.Common.{◌≤◌, ◌+◌, ℕ, Bool, true, false, cond, get_or, take, arith}
+use Rattle.std.proofs.Common.{◌≤◌, ℕ, Bool, true, false, cond, arith}
 use Rattle.std.proofs.lemmas.Grind.{common_steps}
 use Rattle.std.proofs.lemmas.List.Sums.{sum_by_more_le_part, sum_by-le-sum_by}
-use Rattle.pb_core.specs.Slack.{coef_sum, reachable}
 use Rattle.pb_core.specs.Values.{is_false}
 use Rattle.pb_core.specs.declared.literal.Term.{Term}
 use Rattle.pb_core.proofs.slacks.reachable.Goals as goal

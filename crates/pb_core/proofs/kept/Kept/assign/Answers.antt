@@ -1,12 +1,8 @@
-use Rattle.std.proofs.Common.{◌≡◌, ℕ, ◌-◌, ◌+◌, ◌<◌, ◌≤◌, not, Some, None, List, [], length, get_or, map, pos, refl, sym, ap, ◌∙◌, arith}
-use Rattle.std.proofs.lemmas.Int.{ints}
-use Rattle.pb_core.specs.AtLeast.{AtLeast}
+use Rattle.std.proofs.Common.{◌≡◌, ◌+◌, ◌≤◌, length, get_or, map, ap, ◌∙◌, arith}
 use Rattle.pb_core.specs.KeptView.{KeptView, row_seen, lists_seen, place_of}
 use Rattle.pb_core.specs.Literal.{complement}
 use Rattle.pb_core.specs.Occurrences.{occurrences_from}
-use Rattle.pb_core.specs.Values.{value_of}
 use Rattle.pb_core.specs.declared.literal.Lit.{Lit}
-use Rattle.pb_core.specs.declared.occurrences.Occurrence.{Occurrence}
 use Rattle.pb_core.proofs.KeptLaws.{length-occurrences_from}
 use Rattle.pb_core.proofs.KeptChanges.{assigned, list_is, list_numbered, all_bounds, written}
 use Rattle.pb_core.proofs.kept.Kept.assign.Goals as goal

@@ -1,10 +1,7 @@
-use Rattle.std.proofs.Common.{◌≡◌, ℕ, ◌-◌, ◌<◌, ◌≤◌, true, List, [], length, get_or, map, pos, ◌≤ℤ◌, refl, sym, ap, ◌∙◌, arith}
+use Rattle.std.proofs.Common.{◌≡◌, ◌-◌, ◌<◌, ◌≤◌, true, [], length, get_or, map, pos, ap, ◌∙◌, arith}
 use Rattle.std.proofs.lemmas.Int.{ints}
 use Rattle.std.proofs.lemmas.List.{get_or-map, get_or_default, length-map}
-use Rattle.pb_core.specs.AtLeast.{AtLeast}
-use Rattle.pb_core.specs.ConstraintAt.{constraint_at}
 use Rattle.pb_core.specs.KeptView.{KeptView, row_seen, lists_seen}
-use Rattle.pb_core.specs.Slack.{slack_of}
 use Rattle.pb_core.specs.declared.rows.Row.{Row}
 use Rattle.pb_core.proofs.KeptChanges.{row_bounds}
 use Rattle.pb_core.proofs.kept.Kept.slack.Goals as goal

@@ -1,0 +1,11 @@
+pub mod JoinedLaws
+pub mod KeptChanges
+pub mod KeptLaws
+pub mod NormalLaws
+pub mod OccurrenceLaws
+pub mod PropagationLaws
+pub mod SatisfactionLaws
+pub mod SignedSums
+pub mod SplitLaws
+pub mod SumLaws
+pub mod ValueLaws

@@ -1,0 +1,15 @@
+pub mod AtLeast
+pub mod ConstraintAt
+pub mod Fresh
+pub mod Joined
+pub mod KeptView
+pub mod Literal
+pub mod Normal
+pub mod Normalised
+pub mod Occurrences
+pub mod Propagates
+pub mod Satisfied
+pub mod Shares
+pub mod Slack
+pub mod TruthEquality
+pub mod Values

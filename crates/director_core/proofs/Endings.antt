@@ -9,8 +9,7 @@ use Rattle.director_words.specs.declared.request.Request.TheVariants.{Install}
 use Rattle.director_words.specs.Status.{short_line_of}
 use Rattle.director_words.specs.declared.status.Status.{Status}
 use Rattle.director_words.specs.declared.status.Status.TheVariants.{Done, NotBuilt, Usage, Unknown, FolderFault, SourceFault, SinkFault, NoMemory}
-use Rattle.director_words.specs.Command.{command_named}
-use Rattle.director_words.specs.Values.{values_found}
+use Rattle.director_words.proofs.Requests.{same_request}
 use Rattle.director_core.specs.Answer.{IsAsked, AsksFor, HasChild, Installs, CanInstall, WantsMore, NamesUnknown, IsAnswer, IsPlainAnswer, IsAnswerOrFault, Leaves}
 use Rattle.director_core.specs.Durable.{OnCommitted}
 use Rattle.director_core.specs.Laid.{IsBare}
@@ -54,13 +53,7 @@ failed_answer words m files profile name F K (NoMemory Either) i h = absurd h
 
 same_word : (words : List (List ℕ)) (p q v w : List ℕ) → AsksFor words p v → AsksFor words q w → v ≡ w
 same_word words p q v w a b =
-    let first : Some a.asks.name ≡ Some b.asks.name = sym a.asks.first ∙ b.asks.first in
-    let names : a.asks.name ≡ b.asks.name = cc in
-    let command : Some a.asks.syntax ≡ Some b.asks.syntax = sym a.asks.command ∙ (ap command_named names ∙ b.asks.command) in
-    let syntaxes : a.asks.syntax ≡ b.asks.syntax = cc in
-    let found : values_found a.asks.name a.asks.syntax words ≡ values_found b.asks.name b.asks.syntax words =
-    ap (λ n. values_found n a.asks.syntax words) names ∙ ap (λ s. values_found b.asks.name s words) syntaxes in
-    let roots : v ∷ [] ≡ w ∷ [] = a.asks.values.2.0 ∙ ((λ i. (found i).operands) ∙ sym b.asks.values.2.0) in
+    let same : Install p a.budget (v ∷ []) ≡ Install q b.budget (w ∷ []) = same_request words _ _ a.asks b.asks in
     cc
 
 pub not_bare : (m : Map) → IsBare m → HasChild m → ⊥

@@ -10,7 +10,7 @@ use Rattle.unit_model.specs.UnitId.{IsUnitId, is_id_byte}
 use Rattle.director_words.specs.declared.root.Root.{Root}
 use Rattle.director_words.specs.Root.{DenotesRoot}
 use Rattle.director_words.specs.Slash.{is_no_slash, is_no_equals}
-use Rattle.director_words.specs.Key.{IsKey, is_key_byte}
+use Rattle.ldap_filter.specs.EnvPairs.{IsEnvKey, is_key_byte}
 use Rattle.director_words.specs.Pair.{IsPair}
 
 -- any byte but one
@@ -95,7 +95,7 @@ root_version word id behind text root p whole is d =
     let Whole : Option (Bor (List ℕ)) → Type 0 = λ b. MatchOption b (word ≡ id) (λ t. word ≡ id ++ 47 ∷ t.now) in
     root_parts word id (Some text) root p (subst Whole is whole) d
 
-no_equals_in_key : (key : List ℕ) → IsKey key → AllPass is_no_equals key
+no_equals_in_key : (key : List ℕ) → IsEnvKey key → AllPass is_no_equals key
 no_equals_in_key key is_key =
     All-weaker (λ b. is_key_byte b ≡ true) (IsOther 61) (λ b h. last_true _ _ h) key is_key.each
 
@@ -104,7 +104,7 @@ pub no_pair : (word : List ℕ) → AllPass is_no_equals word → IsPair word �
 no_pair word p pair = no_separator_within 61 word pair.key pair.value p pair.whole
 
 -- a pair's key is what stands before the first `=`
-pub key_of_pair : (word key value : List ℕ) → AllPass is_no_equals key → word ≡ key ++ 61 ∷ value → IsPair word → IsKey key
+pub key_of_pair : (word key value : List ℕ) → AllPass is_no_equals key → word ≡ key ++ 61 ∷ value → IsPair word → IsEnvKey key
 key_of_pair word key value p whole pair =
     let same = cut_same 61 pair.key key pair.value value (no_equals_in_key pair.key pair.is_key) p (sym pair.whole ∙ whole) in
-    subst IsKey same.0 pair.is_key
+    subst IsEnvKey same.0 pair.is_key

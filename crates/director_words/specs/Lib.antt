@@ -1,5 +1,4 @@
 pub mod Command
-pub mod Key
 pub mod Lines
 pub mod Number
 pub mod Pair

@@ -3,7 +3,6 @@
 
 mod command;
 mod fields;
-mod key;
 mod number;
 mod pair;
 mod printing;

@@ -3,14 +3,14 @@ ghost use Rattle.std.specs.List.{AllPass};
 ghost use Rattle.director_words.specs.Pair.{IsPair};
 ghost use Rattle.director_words.specs.Slash.{is_no_equals};
 
-use crate::key::is_key;
+use ldap_filter::is_env_key;
 
 /// Whether a word is `KEY=VALUE`, cut at its first `=`. The value may be empty.
 pub(crate) fn is_pair(word: &[u8]) -> bool
     ensures { IsTrue result ↔ IsPair word.now }
 {
     match cut_at_equals(word) {
-        Some((key, _value)) => is_key(key),
+        Some((key, _value)) => is_env_key(key),
         None => false,
     }
 }

@@ -25,7 +25,7 @@ impl Env {
         ensures refused { IfErr result (IsEnvFault key.now) }
         ensures err { OnErr result (self.new ≡ self.old) }
     {
-        if !is_key(key) {
+        if !is_env_key(key) {
             return Err(EnvFault::BadKey);
         }
         let key = lowered(*self.entries.allocator(), key)?;
@@ -61,8 +61,8 @@ fn remove(entries: &mut Vec<Entry>, key: &[u8])
     }
 }
 
-/// Whether these bytes may be a key.
-fn is_key(key: &[u8]) -> bool
+/// Whether these bytes may be a key of an environment: 1 to 200 printable ASCII bytes without blank and `=`.
+pub fn is_env_key(key: &[u8]) -> bool
     ensures { IsTrue result ↔ IsEnvKey key.now }
 {
     !key.is_empty() && key.len() <= LONGEST_KEY && key.iter().all(|byte| is_key_byte(*byte))

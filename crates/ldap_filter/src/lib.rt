@@ -12,6 +12,7 @@ mod writing;
 
 pub use env::Env;
 pub use env_fault::EnvFault;
+pub use env_set::is_env_key;
 pub use filter::Filter;
 pub use test::Test;
 

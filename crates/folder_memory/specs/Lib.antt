@@ -5,6 +5,7 @@ pub mod MemorySink
 pub mod MemoryTree
 pub mod Moments
 pub mod Nodes
+pub mod Obeys
 pub mod Schedule
 pub mod Sets
 pub mod State

@@ -90,6 +90,18 @@ impl MemoryFolder {
 }
 
 impl Folder for MemoryFolder {
+    ghost use Rattle.std.specs.Prelude.{◌≡◌, ◌↔◌, ◌+◌, ◌-◌, ◌^◌, min, [], Contains, IfOk, IfSome, OnOk, OnErr, IsErr, IsErrOf, Some};
+    ghost use Rattle.std.specs.Option.{option_copied};
+    ghost use Rattle.folder_core.specs.Cause.{HasCause};
+    ghost use Rattle.folder_core.specs.Crash.{IsImage, Touches, Narrows, Elapses};
+    ghost use Rattle.folder_core.specs.Folder.{CanSet, IsKid, SameBut, set_at};
+    ghost use Rattle.folder_core.specs.Name.{AreRising, AreThose};
+    ghost use Rattle.folder_core.specs.Node.{IsNode, IsSmallAt};
+    ghost use Rattle.folder_core.specs.Step.{Step};
+    ghost use Rattle.folder_memory.specs.Memory.{schedule_of, told_by};
+    ghost use Rattle.folder_memory.specs.Obeys.{Obeys};
+    ghost use Rattle.folder_memory.specs.Schedule.{FailsNext};
+    ghost use Rattle.folder_memory.specs.State.{state_of, LeftSince};
     ghost use Rattle.folder_core.specs.Formed.{IsFormed-had};
     ghost use Rattle.folder_memory.specs.Moments.{image_now, counts_now, only_now};
 
@@ -105,14 +117,43 @@ impl Folder for MemoryFolder {
 
     ghost only_now = { λ f m left. only_now f.history.events.items m left };
 
-    fn look(&mut self, _alloc: Global, path: &Path) -> Result<Option<Node>, FolderError> {
+    fn look(&mut self, _alloc: Global, path: &Path) -> Result<Option<Node>, FolderError>
+        ensures found { IfOk result (λ found. (told_by self.old).now path.now ≡ found) }
+        ensures node { IfOk result (λ found. IfSome found IsNode) }
+        ensures small { IfOk result (λ found. IfSome found (IsSmallAt path.now)) }
+        ensures stays { Step (⟦<MemoryFolder as Folder>⟧.told self.old) (⟦<MemoryFolder as Folder>⟧.told self.new) (λ s t. t.now ≡ s.now) }
+        ensures unsynced { Step (⟦<MemoryFolder as Folder>⟧.told self.old) (⟦<MemoryFolder as Folder>⟧.told self.new) (λ s t. t.synced ≡ s.synced) }
+        ensures untouched { Step (⟦<MemoryFolder as Folder>⟧.told self.old) (⟦<MemoryFolder as Folder>⟧.told self.new) (λ s t. t.touched ≡ s.touched) }
+        ensures crash { Step (⟦<MemoryFolder as Folder>⟧.told self.old) (⟦<MemoryFolder as Folder>⟧.told self.new) Narrows }
+        ensures time { Step (⟦<MemoryFolder as Folder>⟧.told self.old) (⟦<MemoryFolder as Folder>⟧.told self.new)
+            (λ s t. Elapses s.moment t.moment (⟦<MemoryFolder as Folder>⟧.left_since self.old) (⟦<MemoryFolder as Folder>⟧.left_since self.new) (IsImage t)) }
+        ensures cause { HasCause (schedule_of self.old).faults (schedule_of self.new).faults (IsErrOf result FolderError.Failed) }
+
+        // It fails exactly where it is told to, but for want of memory.
+        ensures fails { Obeys (FailsNext (schedule_of self.old)) result }
+        ensures calls { (schedule_of self.new).calls ≡ min ((schedule_of self.old).calls + 1) (2 ^ 64 - 1) }
+    {
         if self.schedule.next() {
             return Err(FolderError::Failed);
         }
         Ok(copied(self.node(path))?)
     }
 
-    fn kids(&mut self, alloc: Global, path: &Path) -> Result<List<Name>, FolderError> {
+    fn kids(&mut self, alloc: Global, path: &Path) -> Result<List<Name>, FolderError>
+        ensures kids { IfOk result (λ names. AreThose (IsKid (told_by self.old).now path.now) names) }
+        ensures rising { IfOk result AreRising }
+        ensures stays { Step (⟦<MemoryFolder as Folder>⟧.told self.old) (⟦<MemoryFolder as Folder>⟧.told self.new) (λ s t. t.now ≡ s.now) }
+        ensures unsynced { Step (⟦<MemoryFolder as Folder>⟧.told self.old) (⟦<MemoryFolder as Folder>⟧.told self.new) (λ s t. t.synced ≡ s.synced) }
+        ensures untouched { Step (⟦<MemoryFolder as Folder>⟧.told self.old) (⟦<MemoryFolder as Folder>⟧.told self.new) (λ s t. t.touched ≡ s.touched) }
+        ensures crash { Step (⟦<MemoryFolder as Folder>⟧.told self.old) (⟦<MemoryFolder as Folder>⟧.told self.new) Narrows }
+        ensures time { Step (⟦<MemoryFolder as Folder>⟧.told self.old) (⟦<MemoryFolder as Folder>⟧.told self.new)
+            (λ s t. Elapses s.moment t.moment (⟦<MemoryFolder as Folder>⟧.left_since self.old) (⟦<MemoryFolder as Folder>⟧.left_since self.new) (IsImage t)) }
+        ensures cause { HasCause (schedule_of self.old).faults (schedule_of self.new).faults (IsErrOf result FolderError.Failed) }
+
+        // It fails exactly where it is told to, but for want of memory.
+        ensures fails { Obeys (FailsNext (schedule_of self.old)) result }
+        ensures calls { (schedule_of self.new).calls ≡ min ((schedule_of self.old).calls + 1) (2 ^ 64 - 1) }
+    {
         if self.schedule.next() {
             return Err(FolderError::Failed);
         }
@@ -124,7 +165,30 @@ impl Folder for MemoryFolder {
     }
 
     /// A `set` that fails leaves its path as it was.
-    fn set(&mut self, path: &Path, node: Option<&Node>) -> Result<(), FolderError> {
+    fn set(&mut self, path: &Path, node: Option<&Node>) -> Result<(), FolderError>
+        requires place { CanSet (told_by self.old).now path.now }
+        requires node { IfSome (option_copied node) IsNode }
+        requires small { IfSome (option_copied node) (IsSmallAt path.now) }
+
+        ensures ok { OnOk result (Step (⟦<MemoryFolder as Folder>⟧.told self.old) (⟦<MemoryFolder as Folder>⟧.told self.new)
+            (λ s t. t.now ≡ set_at s.now path.now (option_copied node.entry))) }
+        ensures no_memory { IsErrOf result FolderError.NoMemory
+            → Step (⟦<MemoryFolder as Folder>⟧.told self.old) (⟦<MemoryFolder as Folder>⟧.told self.new) (λ s t. (t.now ≡ s.now) × (t.touched ≡ s.touched)) }
+        ensures elsewhere { Step (⟦<MemoryFolder as Folder>⟧.told self.old) (⟦<MemoryFolder as Folder>⟧.told self.new) (λ s t. SameBut path.now s.now t.now) }
+        ensures unsynced { Step (⟦<MemoryFolder as Folder>⟧.told self.old) (⟦<MemoryFolder as Folder>⟧.told self.new) (λ s t. t.synced ≡ s.synced) }
+        ensures touched { ¬ (IsErrOf result FolderError.NoMemory)
+            → Step (⟦<MemoryFolder as Folder>⟧.told self.old) (⟦<MemoryFolder as Folder>⟧.told self.new) (λ s t. Contains t.touched path.now) }
+        ensures crash { Step (⟦<MemoryFolder as Folder>⟧.told self.old) (⟦<MemoryFolder as Folder>⟧.told self.new) (Touches path.now) }
+        ensures time { Step (⟦<MemoryFolder as Folder>⟧.told self.old) (⟦<MemoryFolder as Folder>⟧.told self.new)
+            (λ s t. Elapses s.moment t.moment (⟦<MemoryFolder as Folder>⟧.left_since self.old) (⟦<MemoryFolder as Folder>⟧.left_since self.new) (IsImage t)) }
+        ensures cause { HasCause (schedule_of self.old).faults (schedule_of self.new).faults (IsErrOf result FolderError.Failed) }
+
+        // It fails exactly where it is told to, but for want of memory.
+        ensures fails { Obeys (FailsNext (schedule_of self.old)) result }
+        ensures calls { (schedule_of self.new).calls ≡ min ((schedule_of self.old).calls + 1) (2 ^ 64 - 1) }
+        // Where it fails, its path stays as it was.
+        ensures failed { OnErr result ((told_by self.new).now ≡ (told_by self.old).now) }
+    {
         if self.schedule.next() {
             let there = copied(self.node(path))?;
             self.history.set(path, there.as_ref())?;
@@ -134,7 +198,21 @@ impl Folder for MemoryFolder {
     }
 
     /// Takes no memory.
-    fn sync(&mut self) -> Result<(), Failed> {
+    fn sync(&mut self) -> Result<(), Failed>
+        ensures stays { Step (⟦<MemoryFolder as Folder>⟧.told self.old) (⟦<MemoryFolder as Folder>⟧.told self.new) (λ s t. t.now ≡ s.now) }
+        ensures synced { OnOk result (Step (⟦<MemoryFolder as Folder>⟧.told self.old) (⟦<MemoryFolder as Folder>⟧.told self.new) (λ s t. t.synced ≡ s.now)) }
+        ensures settled { OnOk result (Step (⟦<MemoryFolder as Folder>⟧.told self.old) (⟦<MemoryFolder as Folder>⟧.told self.new) (λ s t. t.touched ≡ [])) }
+        ensures failed { OnErr result (Step (⟦<MemoryFolder as Folder>⟧.told self.old) (⟦<MemoryFolder as Folder>⟧.told self.new) (λ s t. t.synced ≡ s.synced)) }
+        ensures untouched { OnErr result (Step (⟦<MemoryFolder as Folder>⟧.told self.old) (⟦<MemoryFolder as Folder>⟧.told self.new) (λ s t. t.touched ≡ s.touched)) }
+        ensures crash { Step (⟦<MemoryFolder as Folder>⟧.told self.old) (⟦<MemoryFolder as Folder>⟧.told self.new) Narrows }
+        ensures time { Step (⟦<MemoryFolder as Folder>⟧.told self.old) (⟦<MemoryFolder as Folder>⟧.told self.new)
+            (λ s t. Elapses s.moment t.moment (⟦<MemoryFolder as Folder>⟧.left_since self.old) (⟦<MemoryFolder as Folder>⟧.left_since self.new) (IsImage t)) }
+        ensures cause { HasCause (schedule_of self.old).faults (schedule_of self.new).faults (IsErr result) }
+
+        // It fails exactly where it is told to.
+        ensures fails { IsErr result ↔ FailsNext (schedule_of self.old) }
+        ensures calls { (schedule_of self.new).calls ≡ min ((schedule_of self.old).calls + 1) (2 ^ 64 - 1) }
+    {
         if self.schedule.next() {
             return Err(Failed);
         }

@@ -42,11 +42,26 @@ fn fill(left: &[u8], into: &mut [u8]) -> usize
 }
 
 impl Input for MemoryInput {
+    ghost use Rattle.std.specs.Prelude.{◌≡◌, ◌≤◌, ◌↔◌, length, drop, Some, IfOk, OnErr, IsErr};
+    ghost use Rattle.folder_core.specs.Cause.{HasCause};
+    ghost use Rattle.folder_core.specs.Step.{Step};
+    ghost use Rattle.folder_core.specs.Stream.{Reads};
+    ghost use Rattle.folder_memory.specs.MemorySink.{input_schedule};
+    ghost use Rattle.folder_memory.specs.Schedule.{FailsNext};
+
     ghost told = { λ i. Some (drop i.taken i.bytes) };
 
     ghost faults = { λ i. i.schedule.faults };
 
-    fn read(&mut self, into: &mut [u8]) -> Result<usize, Failed> {
+    fn read(&mut self, into: &mut [u8]) -> Result<usize, Failed>
+        ensures bound { IfOk result (λ n. n ≤ length into.new) }
+        ensures taken { IfOk result (λ n. Step (⟦<MemoryInput as Input>⟧.told self.old) (⟦<MemoryInput as Input>⟧.told self.new) (Reads n into.new)) }
+        ensures failed { OnErr result (Step (⟦<MemoryInput as Input>⟧.told self.old) (⟦<MemoryInput as Input>⟧.told self.new) (λ s t. t ≡ s)) }
+        ensures cause { HasCause (input_schedule self.old).faults (input_schedule self.new).faults (IsErr result) }
+
+        // It fails exactly where it is told to.
+        ensures fails { IsErr result ↔ FailsNext (input_schedule self.old) }
+    {
         if self.schedule.next() {
             return Err(Failed);
         }
@@ -96,12 +111,27 @@ impl MemorySink {
 }
 
 impl Sink for MemorySink {
+    ghost use Rattle.std.specs.Prelude.{◌≡◌, ◌≤◌, ◌<◌, ◌-◌, ◌++◌, min, length, take, Some, IfOk, OnErr, IsErr};
+    ghost use Rattle.folder_core.specs.Cause.{HasCause};
+    ghost use Rattle.folder_core.specs.Step.{Step};
+    ghost use Rattle.folder_memory.specs.MemorySink.{room_of, sink_schedule, written_to};
+
     ghost told = { λ s. Some s.bytes.items };
 
     ghost faults = { λ s. s.schedule.faults };
 
     /// Takes as many bytes as still fit. Without room it fails.
-    fn write(&mut self, piece: &[u8]) -> Result<usize, Failed> {
+    fn write(&mut self, piece: &[u8]) -> Result<usize, Failed>
+        ensures bound { IfOk result (λ n. n ≤ length piece.now) }
+        ensures some { IfOk result (λ n. 0 < length piece.now → 0 < n) }
+        ensures written { IfOk result (λ n. Step (⟦<MemorySink as Sink>⟧.told self.old) (⟦<MemorySink as Sink>⟧.told self.new) (λ s t. t ≡ s ++ take n piece.now)) }
+        ensures failed { OnErr result (Step (⟦<MemorySink as Sink>⟧.told self.old) (⟦<MemorySink as Sink>⟧.told self.new) (λ s t. t ≡ s)) }
+        ensures cause { HasCause (sink_schedule self.old).faults (sink_schedule self.new).faults (IsErr result) }
+
+        // As many bytes as still fit are taken.
+        ensures fits { IfOk result (λ n. n ≡ min (length piece.now) (room_of self.old - length (written_to self.old))) }
+        ensures room { room_of self.new ≡ room_of self.old }
+    {
         let count = piece.len().min(self.room - self.bytes.len());
         if self.schedule.next_or(count == 0 && !piece.is_empty()) {
             return Err(Failed);

@@ -131,20 +131,49 @@ fn kids_of(alloc: Global, files: &[MemoryFile], path: &Path) -> Result<List<Name
 }
 
 impl Tree for MemoryTree {
+    ghost use Rattle.std.specs.Prelude.{◌≡◌, ◌≤◌, ◌<◌, ◌↔◌, [], ◌∷◌, ◌++◌, length, Some, IfOk, IfSome, IsErrOf, IsSomeAnd};
+    ghost use Rattle.folder_core.specs.Cause.{HasCause};
+    ghost use Rattle.folder_core.specs.Formed.{AreFiles-had};
+    ghost use Rattle.folder_core.specs.Name.{AreRising, AreThose};
+    ghost use Rattle.folder_core.specs.Tree.{HasBelow};
+    ghost use Rattle.folder_memory.specs.Files.{files_of};
+    ghost use Rattle.folder_memory.specs.MemoryTree.{told_by, schedule_of};
+    ghost use Rattle.folder_memory.specs.Schedule.{FailsNext};
+
     ghost told = { λ t. Some (files_of t.files) };
 
     ghost faults = { λ t. t.schedule.faults };
 
     ghost formed = { λ t. AreFiles-had (files_of t.files) t.formed };
 
-    fn kids(&mut self, alloc: Global, path: &Path) -> Result<List<Name>, TreeError> {
+    fn kids(&mut self, alloc: Global, path: &Path) -> Result<List<Name>, TreeError>
+        ensures kids { IfOk result (AreThose (λ name. HasBelow (told_by self.old) (path.now ++ name ∷ []))) }
+        ensures rising { IfOk result AreRising }
+        ensures never_too_large { ¬ (IsErrOf result TreeError.TooLarge) }
+        ensures stays { ⟦<MemoryTree as Tree>⟧.told self.new ≡ ⟦<MemoryTree as Tree>⟧.told self.old }
+        ensures cause { HasCause (schedule_of self.old).faults (schedule_of self.new).faults (IsErrOf result TreeError.Failed) }
+
+        // It fails exactly where it is told to, but for want of memory.
+        ensures fails { IsErrOf result TreeError.Failed ↔ FailsNext (schedule_of self.old) }
+    {
         if self.schedule.next() {
             return Err(TreeError::Failed);
         }
         Ok(kids_of(alloc, self.files.items(), path)?)
     }
 
-    fn read(&mut self, _alloc: Global, path: &Path, limit: u64) -> Result<Option<Blob>, TreeError> {
+    fn read(&mut self, _alloc: Global, path: &Path, limit: u64) -> Result<Option<Blob>, TreeError>
+        requires { limit ≤ 67108864 }
+
+        ensures found { IfOk result (λ found. told_by self.old path.now ≡ found) }
+        ensures within { IfOk result (λ found. IfSome found (λ blob. length blob ≤ limit)) }
+        ensures too_large { IsErrOf result TreeError.TooLarge → IsSomeAnd (told_by self.old path.now) (λ bytes. limit < length bytes) }
+        ensures stays { ⟦<MemoryTree as Tree>⟧.told self.new ≡ ⟦<MemoryTree as Tree>⟧.told self.old }
+        ensures cause { HasCause (schedule_of self.old).faults (schedule_of self.new).faults (IsErrOf result TreeError.Failed) }
+
+        // It fails exactly where it is told to, but for want of memory.
+        ensures fails { IsErrOf result TreeError.Failed ↔ FailsNext (schedule_of self.old) }
+    {
         if self.schedule.next() {
             return Err(TreeError::Failed);
         }

@@ -5,7 +5,7 @@ use Rattle.folder_core.specs.Formed.{IsFormed-had}
 use Rattle.folder_core.specs.declared.node.Touch.{Touch}
 use Rattle.folder_core.proofs.Maps.{pushed_or_not}
 use Rattle.folder_memory.specs.State.{state_of}
-use Rattle.folder_memory.proofs.Standing.{formed_kept, formed_put, elsewhere_set, contains_set, touches_set, elapses_set}
+use Rattle.folder_memory.proofs.Standing.{formed_kept, formed_put, elsewhere_set, contains_set, touches_set, elapses_set, now_kept}
 use Rattle.folder_memory.proofs.folder.MemoryFolderFolder.set.Goals as goal
 
 -- a set that fails puts what stands there
@@ -53,3 +53,8 @@ returns-clause-crash c = touches_set c.args.self.now.history.events.items c.set-
 
 pub returns-clause-time : goal.returns-clause-time
 returns-clause-time c = elapses_set c.args.self.now.history.events.items c.set-2.new.self.events.items (record { path = c.args.path.now; node = option_copied c.args.node }) c.in_ok-set-2.ensures.ok
+
+pub returns-then-next-clause-failed : goal.returns-then-next-clause-failed
+returns-then-next-clause-failed c =
+    now_kept c.args.self.now.history.events.items c.set.new.self.events.items (record { path = c.args.path.now; node = option_copied c.as_ref.result }) c.in_ok-set.ensures.ok
+    (c.as_ref.ensures.value ∙ c.in_ok-there.ensures ∙ sym c.node.ensures)

@@ -2,8 +2,8 @@
 
 use crate::run;
 use director_words::Status;
-use folder_core::plain::{PlainFolder, PlainInput, PlainSink, PlainTree};
 use folder_core::{Blob, Node, Path};
+use folder_memory::{MemoryFolder, MemoryInput, MemorySink, MemoryTree};
 use osgi_version::{List, NoMemory, Text};
 use std::alloc::Global;
 use std::test::Fail;
@@ -21,12 +21,10 @@ fn blob_of(alloc: Global, text: &str) -> Result<Blob, Fail> {
 }
 
 /// A source of these files.
-fn source_of(alloc: Global, files: &[(&str, &str)]) -> Result<PlainTree, Fail> {
-    let mut source = PlainTree::new(alloc);
+fn source_of(alloc: Global, files: &[(&str, &str)]) -> Result<MemoryTree, Fail> {
+    let mut source = MemoryTree::new(alloc);
     for (path, text) in files {
-        if !source.put(&path_at(alloc, path)?, &blob_of(alloc, text)?)? {
-            return Err("a file has no room".into());
-        }
+        source.put(&path_at(alloc, path)?, &blob_of(alloc, text)?)?;
     }
     Ok(source)
 }
@@ -42,14 +40,14 @@ fn words_of(alloc: Global, line: &str) -> Result<Vec<Text>, NoMemory> {
 /// Runs the words over the folder and a source of these files: the status, and what is printed.
 fn command(
     alloc: Global,
-    folder: &mut PlainFolder,
+    folder: &mut MemoryFolder,
     files: &[(&str, &str)],
     line: &str,
-) -> Result<(Status, PlainSink), Fail> {
+) -> Result<(Status, MemorySink), Fail> {
     let words = words_of(alloc, line)?;
     let mut source = source_of(alloc, files)?;
-    let mut input = PlainInput::new(List::new(alloc));
-    let mut out = PlainSink::new(alloc);
+    let mut input = MemoryInput::new(alloc, List::new(alloc), List::new(alloc));
+    let mut out = MemorySink::new(alloc, 4096, List::new(alloc))?;
     let status = run(
         alloc,
         words.as_slice(),
@@ -63,12 +61,12 @@ fn command(
 
 const FIRST: [(&str, &str); 1] = [("f/p2.inf", "units.0.id=a\nunits.0.version=1.0.0\n")];
 
-fn has_directory(alloc: Global, folder: &PlainFolder, at: &str) -> Result<bool, Fail> {
+fn has_directory(alloc: Global, folder: &MemoryFolder, at: &str) -> Result<bool, Fail> {
     let path = path_at(alloc, at)?;
     Ok(matches!(folder.node(&path), Some(Node::Dir)))
 }
 
-fn has_file(alloc: Global, folder: &PlainFolder, at: &str, text: &str) -> Result<bool, Fail> {
+fn has_file(alloc: Global, folder: &MemoryFolder, at: &str, text: &str) -> Result<bool, Fail> {
     let path = path_at(alloc, at)?;
     Ok(match folder.node(&path) {
         Some(Node::File { mode, blob }) => *mode == 0o644 && blob.bytes() == text.as_bytes(),
@@ -76,7 +74,7 @@ fn has_file(alloc: Global, folder: &PlainFolder, at: &str, text: &str) -> Result
     })
 }
 
-fn has_nothing(alloc: Global, folder: &PlainFolder, at: &str) -> Result<bool, Fail> {
+fn has_nothing(alloc: Global, folder: &MemoryFolder, at: &str) -> Result<bool, Fail> {
     let path = path_at(alloc, at)?;
     Ok(folder.node(&path).is_none())
 }
@@ -84,7 +82,7 @@ fn has_nothing(alloc: Global, folder: &PlainFolder, at: &str) -> Result<bool, Fa
 #[test]
 fn the_first_install(rt: HostRuntime) -> Result<(), Fail> {
     let alloc = rt.alloc();
-    let mut folder = PlainFolder::new(alloc)?;
+    let mut folder = MemoryFolder::new(alloc);
     let (status, out) = command(alloc, &mut folder, &FIRST, "install -p ide a")?;
     assert_eq!(rt; status.code(), 0);
     assert_eq!(rt;
@@ -114,7 +112,7 @@ fn is_refused(
     code: u8,
     printed: &str,
 ) -> Result<bool, Fail> {
-    let mut folder = PlainFolder::new(alloc)?;
+    let mut folder = MemoryFolder::new(alloc);
     let (status, out) = command(alloc, &mut folder, files, line)?;
     Ok(
         status.code() == code
@@ -169,7 +167,7 @@ fn sources_are_refused(rt: HostRuntime) -> Result<(), Fail> {
 fn a_second_command_is_not_built(rt: HostRuntime) -> Result<(), Fail> {
     let alloc = rt.alloc();
     let files = [("f/META-INF/p2.inf", "units.0.id=a\nunits.0.version= 1.0 \n")];
-    let mut folder = PlainFolder::new(alloc)?;
+    let mut folder = MemoryFolder::new(alloc);
     let line = "install --profile=ide -b 50000 -- a/1";
     let (first, _) = command(alloc, &mut folder, &files, line)?;
     assert_eq!(rt; first.code(), 0);

@@ -5,15 +5,11 @@ use Rattle.std.specs.Bool.{Decides}
 use Rattle.std.proofs.lemmas.Bool.{cases_Bool, both_ways}
 use Rattle.std.proofs.lemmas.Slice.Eq.{slice_eq-Decides, bytes_eq-Decides}
 use Rattle.std.proofs.lemmas.List.{length-take, take_at}
-use Rattle.std.proofs.lemmas.List.Sums.{fold_push}
 use Rattle.folder_core.specs.Path.{IsPath, path_eqb, parent}
 use Rattle.folder_core.specs.Node.{IsNode, IsSmallAt}
 use Rattle.folder_core.specs.Folder.{Map, IsFormed, CanSet, set_at}
-use Rattle.folder_core.specs.Plain.{nowhere, only_root, map_of}
 use Rattle.folder_core.specs.declared.node.Node.{Node}
 use Rattle.folder_core.specs.declared.node.Node.TheVariants.{Dir}
-use Rattle.folder_core.specs.declared.node.Touch.{Touch}
-use Rattle.folder_core.proofs.Paths.{IsPath-nil}
 
 pub path_eqb-Decides : (p q : List (List ℕ)) → Decides (path_eqb p q) (p ≡ q)
 path_eqb-Decides p q = slice_eq-Decides bytes_eq-Decides p q (path_eqb p q) refl
@@ -96,30 +92,6 @@ IsFormed-set_at m path node formed can is_path is_node is_small = record {
           changed_other m path node (parent place) (not_below place n some stands) ∙ formed.parents place n some stands
     ]
 
-pub IsFormed-only_root : IsFormed only_root
-IsFormed-only_root = record {
-  root = refl;
-  parents = λ place n some is. absurd (none place n some is);
-  paths = λ place n is. elim (same_path place []) [
-    | inl here ↦ subst IsPath (sym here) IsPath-nil
-    | inr other ↦ absurd (none place n other is)
-  ];
-  nodes = λ place n is. elim (same_path place []) [
-    | inl here ↦ subst IsNode (dir place n here is) tt
-    | inr other ↦ absurd (none place n other is)
-  ];
-  small = λ place n is. elim (same_path place []) [
-    | inl here ↦ subst (IsSmallAt place) (dir place n here is) tt
-    | inr other ↦ absurd (none place n other is)
-  ];
-}
-  where
-    none : (place : List (List ℕ)) (n : Node) → place ≢ [] → only_root place ≡ Some n → ⊥
-    none place n some is = let other : only_root place ≡ None = changed_other nowhere [] (Some Dir) place some in let no : ⊥ = cc in no
-
-    dir : (place : List (List ℕ)) (n : Node) → place ≡ [] → only_root place ≡ Some n → Dir ≡ n
-    dir place n here is = let at : only_root place ≡ Some Dir = changed_here nowhere [] (Some Dir) place here in cc
-
 small_at : (path : List (List ℕ)) (node : Option Node) → ((n : Node) → node ≡ Some n → IsSmallAt path n) → IfSome node (IsSmallAt path)
 small_at path None small = tt
 small_at path (Some n) small = small n refl
@@ -127,17 +99,6 @@ small_at path (Some n) small = small n refl
 -- what stands at a path is small enough for it
 pub small_there : (m : Map) (path : List (List ℕ)) → IsFormed m → IfSome (m path) (IsSmallAt path)
 small_there m path formed = small_at path (m path) (formed.small path)
-
-pub map_of-push : (touches : List Touch) (touch : Touch) → map_of (touches ++ touch ∷ []) ≡ set_at (map_of touches) touch.path touch.node
-map_of-push touches touch = fold_push (λ m t. set_at m t.path t.node) nowhere touches touch
-
--- after a touch that was added, or wasn't
-pub formed_after : (old new : List Touch) (touch : Touch) → (new ≡ old ++ touch ∷ []) ⊎ (new ≡ old) → IsFormed (map_of old) → CanSet (map_of old) touch.path → IsPath touch.path → IfSome touch.node IsNode → IfSome touch.node (IsSmallAt touch.path) → IsFormed (map_of new)
-formed_after old new touch (inl is) formed can is_path is_node is_small = subst IsFormed (sym (ap map_of is ∙ map_of-push old touch)) (IsFormed-set_at (map_of old) touch.path touch.node formed can is_path is_node is_small)
-formed_after old new touch (inr is) formed can is_path is_node is_small = subst (λ ts. IsFormed (map_of ts)) (sym is) formed
-
-pub elsewhere_set : (old new : Map) (path : List (List ℕ)) (node : Option Node) → new ≡ set_at old path node → (place : List (List ℕ)) → place ≢ path → new place ≡ old place
-elsewhere_set old new path node is place apart = ap (λ (m : Map). m place) is ∙ changed_other old path node place apart
 
 pub pushed_or_not : {E P Q : Type 0} (result : Result (Unit {0}) E) → OnOk result P → OnErr result Q → P ⊎ Q
 pushed_or_not (Ok done) pushed not_pushed = inl pushed

@@ -1,7 +1,7 @@
 -- How what crashes leave goes on over a run of calls.
 use Rattle.std.proofs.Common.{inl, inr, ⊎_elim, ℕ, ◌≤◌, Option, Some, None, arith}
 use Rattle.folder_core.specs.Folder.{Map, Told, IsFormed}
-use Rattle.folder_core.specs.Crash.{IsImage, MayLeave, AllImages, Elapses, EachLeft, LeavesOnly}
+use Rattle.folder_core.specs.Crash.{IsImage, AllImages, Elapses, EachLeft, LeavesOnly}
 use Rattle.folder_core.specs.Step.{OnTold, Step}
 
 -- what stands now is well formed

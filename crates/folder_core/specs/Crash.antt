@@ -1,7 +1,7 @@
 -- What a crash leaves of a folder, at a moment and since one.
 use Rattle.std.specs.Prelude.{◌≡◌, ℕ, ◌≤◌, ◌⊎◌, List, Option, Some, None, Contains}
 use Rattle.folder_core.specs.Folder.{Map, Told, IsFormed}
-use Rattle.folder_core.specs.Step.{OnTold, Step}
+use Rattle.folder_core.specs.Step.{Step}
 
 -- A crash at this moment may leave this map: it is well formed, and what wasn't touched since the last sync stands as it
 -- stood then. At a touched path any node may stand, or none.

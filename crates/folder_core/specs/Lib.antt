@@ -6,7 +6,6 @@ pub mod Name
 pub mod Node
 pub mod Path
 pub mod PathOrder
-pub mod Plain
 pub mod Step
 pub mod Stream
 pub mod Tree

@@ -8,7 +8,6 @@ mod folder;
 mod name;
 mod node;
 mod path;
-pub mod plain;
 mod stream;
 #[cfg(test)]
 mod tests;

@@ -1,0 +1,7 @@
+pub mod Below
+pub mod Found
+pub mod Kids
+pub mod Made
+pub mod Places
+pub mod Standing
+pub mod States

@@ -1,0 +1,11 @@
+pub mod Below
+pub mod Files
+pub mod Memory
+pub mod MemorySink
+pub mod MemoryTree
+pub mod Moments
+pub mod Nodes
+pub mod Obeys
+pub mod Schedule
+pub mod Sets
+pub mod State

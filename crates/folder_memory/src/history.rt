@@ -1,0 +1,108 @@
+ghost use Rattle.std.specs.Prelude.{◌≡◌, ◌≢◌, ◌<◌, ◌↔◌, ◌++◌, ◌∷◌, [], List, ℕ, IfOk, IsTrue, OnErr, OnOk, Some, vec_len, vec_capacity};
+ghost use Rattle.std.specs.Option.{option_copied};
+ghost use Rattle.folder_core.specs.declared.node.Node.TheVariants.{Dir};
+ghost use Rattle.folder_core.specs.Path.{IsPath};
+ghost use Rattle.folder_memory.specs.Nodes.{map_of};
+
+use crate::nodes::{Nodes, copied, copied_path, find, is_directory, node_at, place};
+use folder_core::{Name, Node, Path, Touch};
+use osgi_version::{NoMemory, Twin};
+use std::alloc::Global;
+use std::collections::BTreeMap;
+
+/// What a folder was told to do, and did.
+#[derive(Debug, Drop)]
+pub(crate) enum Event {
+    Set(Touch),
+    Sync,
+}
+
+ghost use Rattle.folder_memory.specs.State.{state_of};
+
+/// The record of a folder's calls, and what stands after them.
+#[derive(Debug, Drop)]
+pub(crate) struct History {
+    pub(crate) events: Vec<Event>,
+    /// What stands but at the root.
+    pub(crate) nodes: Nodes,
+    /// A directory, which stands at the root.
+    root: Node,
+    /// The paths that were set since the last sync.
+    pub(crate) touched: Vec<Path>,
+    ghost root_is: { ∥ root ≡ Dir ∥₁ },
+    ghost stands: { ∥ ((path : List (List ℕ)) → (state_of events.items).now path ≡ map_of Dir nodes path) ∥₁ },
+    ghost unsynced: { touched.items ≡ (state_of events.items).touched },
+    /// A sync finds room for its mark.
+    ghost room: { (touched.items ≡ [] → ⊥) → vec_len events < vec_capacity events },
+}
+
+impl History {
+    ghost use Rattle.folder_memory.specs.declared.history.Event.TheVariants.{Set};
+    ghost use Rattle.folder_memory.specs.State.{MaySync};
+
+    pub(crate) fn new(alloc: Global) -> History
+        ensures { result.events.items ≡ [] }
+    {
+        History {
+            events: Vec::new(alloc),
+            nodes: BTreeMap::new(alloc),
+            root: Node::Dir,
+            touched: Vec::new(alloc),
+        }
+    }
+
+    /// Whether a directory stands at the path that has these names.
+    pub(crate) fn has_directory(&self, names: &[Name]) -> bool
+        ensures { IsTrue result ↔ ((state_of self.now.events.items).now names.now ≡ Some Dir) }
+    {
+        names.is_empty() || is_directory(find(&self.nodes, names))
+    }
+
+    /// The node at a path.
+    pub(crate) fn node(&self, path: &Path) -> Option<&Node>
+        ensures { (state_of self.now.events.items).now path.now ≡ option_copied result }
+    {
+        node_at(&self.nodes, &self.root, path)
+    }
+
+    /// Puts a node at a path, or takes the one there away. Refused, it changes nothing.
+    pub(crate) fn set(&mut self, path: &Path, node: Option<&Node>) -> Result<(), NoMemory>
+        requires { path.now ≢ [] }
+        ensures ok { OnOk result (self.new.events.items ≡ self.old.events.items
+            ++ Set (record { path = path.now; node = option_copied node.entry }) ∷ []) }
+        ensures err { OnErr result (self.new.events.items ≡ self.old.events.items) }
+        ensures path { IsPath path.now }
+    {
+        let touch = Touch {
+            path: copied_path(path)?,
+            node: copied(node)?,
+        };
+        let touched = path.copy()?;
+        self.events.reserve(2)?;
+        self.touched.reserve(1)?;
+        place(&mut self.nodes, path, node)?;
+        if self.touched.push(touched).is_err() {
+            unreachable!();
+        }
+        if self.events.push(Event::Set(touch)).is_err() {
+            unreachable!();
+        }
+        Ok(())
+    }
+
+    /// Marks the record, which takes no memory. Where nothing was set since the last sync, there is nothing to mark.
+    pub(crate) fn sync(&mut self)
+        ensures now { (state_of self.new.events.items).now ≡ (state_of self.old.events.items).now }
+        ensures synced { (state_of self.new.events.items).synced ≡ (state_of self.old.events.items).now }
+        ensures settled { (state_of self.new.events.items).touched ≡ [] }
+        ensures mark { MaySync self.old.events.items self.new.events.items }
+    {
+        if self.touched.as_slice().is_empty() {
+            return;
+        }
+        self.touched.clear();
+        if self.events.push(Event::Sync).is_err() {
+            unreachable!();
+        }
+    }
+}

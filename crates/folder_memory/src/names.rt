@@ -1,0 +1,48 @@
+ghost use Rattle.std.specs.Prelude.{◌≡◌, ◌↔◌, ◌⊎◌, [], ◌∷◌, ◌++◌, IfOk, IsTrue, MatchOption};
+ghost use Rattle.std.specs.BTreeSet.{contains};
+ghost use Rattle.std.specs.Ordering.{nat_cmp};
+ghost use Rattle.std.specs.Cmp.Lexicographic.{slice_cmp};
+ghost use Rattle.folder_core.specs.Name.{AreRising, AreThose};
+ghost use Rattle.folder_core.specs.Path.{IsBelow};
+ghost use Rattle.folder_memory.specs.Below.{IsFirstBelow, IsNoKid};
+
+use folder_core::{Name, Path};
+use osgi_version::{List, NoMemory};
+use std::alloc::Global;
+use std::collections::BTreeSet;
+
+/// The first name on the way from a path to a place below it.
+pub(crate) fn name_below<'a>(path: &Path, place: &'a Path) -> Option<&'a Name>
+    ensures { MatchOption result (¬ (IsBelow path.now place.now)) (λ name. IsFirstBelow path.now name.now place.now) }
+{
+    let front = path.names().items();
+    let names = place.names().items();
+    let rest = names.strip_prefix(front)?;
+    rest.first()
+}
+
+/// Whether one of two paths is below the other.
+pub(crate) fn is_near(one: &Path, other: &Path) -> bool
+    ensures { IsTrue result ↔ (IsBelow one.now other.now ⊎ IsBelow other.now one.now) }
+{
+    name_below(one, other).is_some() || name_below(other, one).is_some()
+}
+
+/// The last name of a place that is directly below a path.
+pub(crate) fn kid_name<'a>(path: &Path, place: &'a Path) -> Option<&'a Name>
+    ensures { MatchOption result (IsNoKid path.now place.now) (λ name. place.now ≡ path.now ++ name.now ∷ []) }
+{
+    let front = path.names().items();
+    let names = place.names().items();
+    let rest = names.strip_prefix(front)?;
+    if rest.len() == 1 { rest.first() } else { None }
+}
+
+/// The names of a set, in rising order.
+pub(crate) fn rising(alloc: Global, names: BTreeSet<Name>) -> Result<List<Name>, NoMemory>
+    ensures names { IfOk result (AreThose (λ name. IsTrue (contains (slice_cmp nat_cmp) names name))) }
+    ensures rising { IfOk result AreRising }
+{
+    let listed: Vec<Name> = names.into_iter().collect(alloc)?;
+    Ok(List::from_vec(listed))
+}

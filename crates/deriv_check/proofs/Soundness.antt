@@ -91,6 +91,13 @@ none_at : (n k : ℕ) → get_or {A = Option Bool} (replicate n None) k None ≡
 none_at n k =
     ⊎_elim (λ lt. get_or-replicate n k None None lt) (λ ge. get_or_past (replicate n None) k None (rw (length-replicate {A = Option Bool}) ge)) (cases_lt k n)
 
+none_cond : (b : Bool) → cond {A = Option Bool} b None None ≡ None
+none_cond true = refl
+none_cond false = refl
+
+pub open_replicate : (n v : ℕ) → value_of (replicate n None) v ≡ None
+open_replicate n v = rw (none_at n (v - 1)) (none_cond (eqb v 0))
+
 open_all : (full : ℕ → Bool) (n : ℕ) → Completes full (replicate n None)
 open_all full n v = rw (none_at n (v - 1)) (by (eqb v 0))
   where

@@ -1,5 +1,5 @@
 -- Literals of a clause that are made false, one after the other.
-use Rattle.std.proofs.Common.{◌≡◌, ◌≢◌, ℕ, zero, suc, ◌+◌, ◌-◌, ◌^◌, ◌<◌, ◌≤◌, Bool, true, false, cond, eqb, ◌||◌, List, [], ◌∷◌, ◌++◌, length, get_or, take, map, fold, replicate, Option, Some, None, is_none, All, AllPairs, refl, sym, ap, ◌∙◌, inl, inr, ◌⊎◌, ⊎_elim, arith, rules}
+use Rattle.std.proofs.Common.{◌≡◌, ◌≢◌, ℕ, zero, suc, ◌+◌, ◌^◌, ◌<◌, ◌≤◌, Bool, true, false, eqb, ◌||◌, List, [], ◌∷◌, ◌++◌, length, get_or, take, map, fold, replicate, Option, Some, None, All, AllPairs, refl, sym, ◌∙◌, inl, inr, ◌⊎◌, ⊎_elim, arith}
 use Rattle.std.specs.List.{list_any}
 use Rattle.std.proofs.lemmas.Bool.{false≢true}
 use Rattle.std.proofs.lemmas.Bool.Decides.{nat_tests, eqb_tells}
@@ -15,7 +15,7 @@ use Rattle.pb_core.specs.Slack.{coef_sum}
 use Rattle.pb_core.specs.declared.literal.Term.{Term}
 use Rattle.pb_core.proofs.KeptChanges.{keepable_clause}
 use Rattle.pb_core.specs.Literal.{complement}
-use Rattle.pb_core.specs.Values.{value_of, make_true, is_open}
+use Rattle.pb_core.specs.Values.{value_of, make_true}
 use Rattle.pb_core.specs.declared.literal.Lit.{Lit}
 use Rattle.pb_core.proofs.ValueLaws.{value_of-set_value, value_of-set_here, value_of-set_elsewhere, length-set_value}
 use Rattle.deriv_check.proofs.Soundness.{open_replicate}

@@ -1,4 +1,4 @@
-use Rattle.std.specs.Prelude.{◌≡◌, ℕ, ◌-◌, ◌<◌, ◌≤◌, List, length, take, Result, Ok, Err, ⊤, slice_index_or}
+use Rattle.std.specs.Prelude.{ℕ, ◌-◌, ◌<◌, ◌≤◌, List, length, take, Result, Ok, Err, ⊤, slice_index_or}
 use Rattle.pb_core.specs.declared.constraint.Constraint.{Constraint}
 use Rattle.deriv_check.specs.Database.{database}
 use Rattle.deriv_check.specs.LineRule.{Fails}

@@ -1,4 +1,4 @@
-use Rattle.std.proofs.Common.{◌≡◌, length, ap}
+use Rattle.std.proofs.Common.{length}
 use Rattle.deriv_check.specs.Verdict.{CheckUpTo, EndsEmpty}
 use Rattle.deriv_check.proofs.Soundness.{all_follow, are_sound}
 use Rattle.deriv_check.proofs.checker.check.Goals as goal

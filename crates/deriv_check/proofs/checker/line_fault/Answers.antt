@@ -1,4 +1,3 @@
-use Rattle.std.proofs.Common.{length}
 use Rattle.deriv_check.proofs.checker.line_fault.Goals as goal
 
 pub conflict-requires-clause-literals : goal.conflict-requires-clause-literals

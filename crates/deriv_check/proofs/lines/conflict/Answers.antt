@@ -1,4 +1,3 @@
-use Rattle.std.proofs.Common.{length}
 use Rattle.deriv_check.proofs.lines.conflict.Goals as goal
 
 pub take_numbered-requires-clause-literals : goal.take_numbered-requires-clause-literals

@@ -1,11 +1,10 @@
-use Rattle.std.proofs.Common.{◌≡◌, ◌≢◌, ℕ, ◌+◌, ◌<◌, ◌≤◌, length, get_or, take, replicate, false, true, not, Bool, Option, Some, None, is_none, refl, sym, ap, ◌∙◌, arith, rules}
+use Rattle.std.proofs.Common.{◌≡◌, ◌≢◌, ◌<◌, length, get_or, replicate, false, true, Bool, Option, Some, None, is_none, refl, sym, ap, ◌∙◌, arith}
 use Rattle.std.proofs.lemmas.Bool.{false≢true}
-use Rattle.std.proofs.lemmas.List.{get_or_default, take_more}
+use Rattle.std.proofs.lemmas.List.{get_or_default}
 use Rattle.std.proofs.lemmas.List.Sums.{fold_more}
 use Rattle.pb_core.specs.Literal.{complement}
-use Rattle.pb_core.specs.Values.{value_of, is_open, make_true}
+use Rattle.pb_core.specs.Values.{make_true}
 use Rattle.pb_core.specs.declared.literal.Lit.{Lit}
-use Rattle.deriv_check.specs.HintRule.{all_false}
 use Rattle.deriv_check.proofs.LineLaws.{deny_step, deny_twice}
 use Rattle.deriv_check.proofs.lines.deny.Goals as goal
 

@@ -1,4 +1,4 @@
-use Rattle.std.proofs.Common.{◌≡◌, ℕ, ◌-◌, length, get_or, ap, ◌∙◌, arith}
+use Rattle.std.proofs.Common.{◌≡◌, ◌-◌, length, get_or, ap, arith}
 use Rattle.pb_core.specs.AtLeast.{AtLeast, at_least, clause}
 use Rattle.pb_core.specs.Normal.{IsNormalOver}
 use Rattle.pb_core.proofs.KeptChanges.{keepable_normal}

@@ -1,4 +1,4 @@
-use Rattle.std.proofs.Common.{◌≡◌, ℕ, length, ap, ◌∙◌, arith}
+use Rattle.std.proofs.Common.{◌≡◌, length, ap, ◌∙◌, arith}
 use Rattle.pb_core.proofs.ValueLaws.{length-set_value}
 use Rattle.std.proofs.Common.{None}
 use Rattle.deriv_check.proofs.TrailLaws.{Covers-popped, Covers-nothing}

@@ -1,16 +1,16 @@
 -- A line that checks follows.
-use Rattle.std.proofs.Common.{◌≡◌, ◌≢◌, ℕ, zero, suc, ◌+◌, ◌-◌, ◌<◌, ◌≤◌, Bool, true, false, not, cond, eqb, ltb, ◌&&◌, ◌||◌, IsTrue, List, [], ◌∷◌, ◌++◌, length, get_or, map, fold, take, replicate, Option, Some, None, IfSome, is_none, Contains, All, append_assoc, refl, sym, ap, ◌∙◌, ⊎_elim, arith, rules}
+use Rattle.std.proofs.Common.{◌≡◌, ℕ, zero, suc, ◌+◌, ◌-◌, ◌<◌, ◌≤◌, Bool, true, false, not, cond, eqb, ltb, ◌&&◌, ◌||◌, List, [], ◌∷◌, length, get_or, map, fold, take, replicate, Option, None, IfSome, Contains, All, append_assoc, refl, sym, ⊎_elim, arith}
 use Rattle.std.specs.List.{list_any}
 use Rattle.std.proofs.lemmas.Bool.{false≢true, cases_lt}
 use Rattle.std.proofs.lemmas.List.{get_or-replicate, get_or_past, length-replicate, map-append, append-nil}
 use Rattle.std.proofs.lemmas.Bool.Decides.{nat_tests}
 use Rattle.std.proofs.lemmas.List.Elements.{All-head, All-tail, All-map, All-push, All-contains_itself}
 use Rattle.std.proofs.Math.Seq.{take-suc}
-use Rattle.pb_core.specs.AtLeast.{AtLeast, at_least, clause}
+use Rattle.pb_core.specs.AtLeast.{AtLeast, at_least}
 use Rattle.pb_core.specs.ConstraintAt.{constraint_at}
 use Rattle.pb_core.specs.Literal.{holds, complement}
 use Rattle.pb_core.specs.Satisfied.{IsSatisfied, SatisfiesAll, MakesTrue, Follows, IsUnsatisfiable}
-use Rattle.pb_core.specs.Slack.{reachable, Forces}
+use Rattle.pb_core.specs.Slack.{reachable}
 use Rattle.pb_core.specs.Values.{value_of, make_true, is_open, Completes}
 use Rattle.pb_core.specs.declared.literal.Lit.{Lit}
 use Rattle.pb_core.specs.declared.literal.Term.{Term}
@@ -90,6 +90,13 @@ false_from full (lit ∷ lits) values completes none =
 none_at : (n k : ℕ) → get_or {A = Option Bool} (replicate n None) k None ≡ None
 none_at n k =
     ⊎_elim (λ lt. get_or-replicate n k None None lt) (λ ge. get_or_past (replicate n None) k None (rw (length-replicate {A = Option Bool}) ge)) (cases_lt k n)
+
+none_cond : (b : Bool) → cond {A = Option Bool} b None None ≡ None
+none_cond true = refl
+none_cond false = refl
+
+pub open_replicate : (n v : ℕ) → value_of (replicate n None) v ≡ None
+open_replicate n v = rw (none_at n (v - 1)) (none_cond (eqb v 0))
 
 open_all : (full : ℕ → Bool) (n : ℕ) → Completes full (replicate n None)
 open_all full n v = rw (none_at n (v - 1)) (by (eqb v 0))

@@ -1,4 +1,4 @@
-use Rattle.std.specs.Prelude.{ℕ, List, ◌++◌, map}
+use Rattle.std.specs.Prelude.{List, ◌++◌, map}
 use Rattle.pb_core.specs.AtLeast.{AtLeast, at_least, clause}
 use Rattle.pb_core.specs.declared.constraint.Constraint.{Constraint}
 use Rattle.deriv_check.specs.declared.derivation.Line.{Line}

@@ -1,5 +1,5 @@
 -- How hints are taken.
-use Rattle.std.specs.Prelude.{ℕ, ◌+◌, ◌&&◌, ◌||◌, nat_lt, Bool, false, List, [], ◌∷◌, Option, None, fold, replicate, if◌then◌else◌}
+use Rattle.std.specs.Prelude.{◌≡◌, ◌<◌, ◌≤◌, MatchBool, ℕ, ◌+◌, ◌&&◌, ◌||◌, nat_lt, Bool, false, List, [], ◌∷◌, Option, None, fold, replicate, if◌then◌else◌}
 use Rattle.pb_core.specs.AtLeast.{AtLeast}
 use Rattle.pb_core.specs.Literal.{complement}
 use Rattle.pb_core.specs.Slack.{reachable}
@@ -23,3 +23,8 @@ with_forced values c = fold (λ later t. if is_forced values c t then make_true 
 abbrev pub conflicts : List (Option Bool) → List AtLeast → Bool
 conflicts values [] = false
 conflicts values (c ∷ constraints) = nat_lt (reachable values c.terms) c.degree || conflicts (with_forced values c) constraints
+
+-- one hint was taken: it is violated, or what it forces is true
+abbrev pub Took : List (Option Bool) → List (Option Bool) → AtLeast → Bool → Type 0
+Took before after c violated =
+    MatchBool violated (reachable before c.terms < c.degree) ((c.degree ≤ reachable before c.terms) × (after ≡ with_forced before c))

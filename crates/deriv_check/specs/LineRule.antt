@@ -1,5 +1,5 @@
 -- When a line checks, and else why not.
-use Rattle.std.specs.Prelude.{◌≡◌, ◌≢◌, ℕ, ◌+◌, ◌<◌, ◌≤◌, true, false, List, length, map, All, AllPairs}
+use Rattle.std.specs.Prelude.{◌≡◌, ◌≢◌, ℕ, ◌<◌, ◌≤◌, true, false, List, length, map, All, AllPairs}
 use Rattle.pb_core.specs.AtLeast.{AtLeast}
 use Rattle.pb_core.specs.ConstraintAt.{constraint_at}
 use Rattle.pb_core.specs.declared.literal.Lit.{Lit}

@@ -1,12 +1,8 @@
-use Rattle.std.specs.Prelude.{◌≡◌, ◌≢◌, ℕ, ◌+◌, ◌-◌, ◌<◌, List, [], length, take, Result, Ok, Err, ⊤, slice_index_or}
+use Rattle.std.specs.Prelude.{◌≡◌, ℕ, ◌-◌, ◌<◌, List, [], length, take, slice_index_or}
 use Rattle.pb_core.specs.declared.constraint.Constraint.{Constraint}
 use Rattle.deriv_check.specs.Database.{database}
-use Rattle.deriv_check.specs.LineRule.{Checks, Fails}
-use Rattle.deriv_check.specs.declared.derivation.CheckFault.{CheckFault}
-use Rattle.deriv_check.specs.declared.derivation.CheckFault.TheVariants as fault
+use Rattle.deriv_check.specs.LineRule.{Checks}
 use Rattle.deriv_check.specs.declared.derivation.Line.{Line}
-use Rattle.deriv_check.specs.declared.derivation.Verdict.{Verdict}
-use Rattle.deriv_check.specs.declared.derivation.Verdict.TheVariants as verdict
 
 -- the first lines check, each over the constraints and the lines before it
 abbrev pub CheckUpTo : ℕ → List Constraint → List Line → ℕ → Type 0

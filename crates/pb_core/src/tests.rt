@@ -1,8 +1,10 @@
 //! Normal forms that were worked out by hand, and slacks that are kept.
 
-ghost use Rattle.std.specs.Prelude.{◌≡◌};
+ghost use Rattle.std.specs.Prelude.{◌≡◌, ◌<◌, ◌≤◌, [], length, IfOk, IsTrue};
 
-use crate::{Assignment, Kept, Lit, Origin, Problem, SignedTerm, Steps, normalise};
+use crate::{
+    Assignment, Constraint, Kept, Lit, Origin, Problem, SignedTerm, Steps, Term, normalise, slack,
+};
 use osgi_version::{List, NoMemory, Text, Twin};
 use std::alloc::Global;
 use std::marker::Brand;
@@ -90,45 +92,144 @@ fn assigns(rt: HostRuntime) -> Result<(), Fail> {
     Ok(())
 }
 
-/// The slack of `not x1` after x1 is assigned, and after it is taken back.
-fn slacks<L: Ledger>(alloc: Global, blank: Blank) -> Result<Vec<i64>, NoMemory>
-    requires name { blank.name ≡ L.name }
-    requires parts { blank.parts ≡ L.parts }
-    requires some { blank.parts ≡ 1 }
+/// No constraint over this many variables.
+fn no_constraint(alloc: Global, variables: u8) -> Result<Kept, NoMemory>
+    ensures constraints { IfOk result (λ kept. kept.constraints ≡ []) }
 {
-    let mut steps = Steps::<L>::new(blank);
     let mut labels = List::new(alloc);
-    labels.push(Text::from_str(alloc, "a")?)?;
-    labels.push(Text::from_str(alloc, "b")?)?;
+    for _ in 0..variables {
+        labels.push(Text::from_str(alloc, "x")?)?;
+    }
     let constraints = List::new(alloc);
-    let mut kept = Kept::new(
+    Kept::new(
         alloc,
         &Problem {
             labels,
             constraints,
         },
-    )?;
-    let mut lits = List::new(alloc);
-    lits.push(Lit {
-        variable: 1,
-        positive: false,
+    )
+}
+
+fn is_among(kept: &Kept, variable: u32) -> bool
+    ensures { IsTrue result → (0 < variable) × (variable ≤ length kept.now.values) }
+{
+    0 < variable && variable as usize <= kept.values().len()
+}
+
+/// Adds the clauses of two literals each, of rising variables.
+fn add_clauses(kept: &mut Kept, alloc: Global, clauses: &[(i32, i32)]) -> Result<(), NoMemory> {
+    for (first, second) in clauses {
+        let (first, second) = (lit(*first), lit(*second));
+        let rising = first.variable < second.variable;
+        if rising
+            && is_among(kept, first.variable)
+            && is_among(kept, second.variable)
+            && kept.len() < 100
+        {
+            let mut lits = List::new(alloc);
+            lits.push(first)?;
+            lits.push(second)?;
+            kept.add(&lits)?;
+        }
+    }
+    Ok(())
+}
+
+/// The slack of a clause of two literals, computed afresh.
+fn slack_afresh(
+    alloc: Global,
+    values: &Assignment,
+    first: Lit,
+    second: Lit,
+) -> Result<i64, NoMemory>
+    requires first { (0 < first.variable) × (first.variable ≤ length values.now) }
+    requires second { (0 < second.variable) × (second.variable ≤ length values.now) }
+{
+    let mut terms = List::new(alloc);
+    terms.push(Term {
+        coef: 1,
+        lit: first,
     })?;
-    kept.add(&lits)?;
-    let mut shown = Vec::new(alloc);
-    let first = Lit {
+    terms.push(Term {
+        coef: 1,
+        lit: second,
+    })?;
+    let origin = Origin::Need {
         variable: 1,
-        positive: true,
+        row: 1,
     };
-    kept.assign(first, &mut steps);
-    shown.push(kept.slack(1))?;
-    kept.clear(1, &mut steps);
-    shown.push(kept.slack(1))?;
-    Ok(shown)
+    let constraint = Constraint {
+        terms,
+        degree: 1,
+        origin,
+    };
+    Ok(slack(&constraint, values))
+}
+
+/// Whether the kept slack of each clause is what computing it afresh gives.
+fn agrees(alloc: Global, kept: &Kept, clauses: &[(i32, i32)]) -> Result<bool, NoMemory> {
+    let mut number: u32 = 0;
+    for (first, second) in clauses {
+        let (first, second) = (lit(*first), lit(*second));
+        number = number.saturating_add(1);
+        if number as usize > kept.len()
+            || !is_among(kept, first.variable)
+            || !is_among(kept, second.variable)
+        {
+            return Ok(false);
+        }
+        if kept.slack(number) != slack_afresh(alloc, kept.values(), first, second)? {
+            return Ok(false);
+        }
+    }
+    Ok(true)
+}
+
+/// Makes the literal true, or takes its variable's value away where it has one.
+fn toggle<L: Ledger>(kept: &mut Kept, lit: Lit, steps: &mut Steps<L>) {
+    if is_among(kept, lit.variable) {
+        if kept.values().is_open(lit) {
+            kept.assign(lit, steps);
+        } else {
+            kept.clear(lit.variable, steps);
+        }
+    }
+}
+
+const CLAUSES: [(i32, i32); 7] = [
+    (1, 2),
+    (-1, 3),
+    (-2, -3),
+    (2, 4),
+    (-3, 4),
+    (1, -4),
+    (-1, -2),
+];
+
+const SCRIPT: [i32; 24] = [
+    1, -2, 3, 2, -4, 3, 1, 4, -1, -3, 4, 1, 2, 2, -2, 3, 4, -1, 3, 2, -4, 1, 4, 3,
+];
+
+/// How many steps were counted, where the slacks agreed after each turn of the script.
+fn slacks_in_turn<L: Ledger>(alloc: Global, blank: Blank) -> Result<bool, NoMemory>
+    requires name { blank.name ≡ L.name }
+    requires parts { blank.parts ≡ L.parts }
+    requires some { blank.parts ≡ 1 }
+{
+    let mut steps = Steps::<L>::new(blank);
+    let mut kept = no_constraint(alloc, 4)?;
+    add_clauses(&mut kept, alloc, &CLAUSES)?;
+    for signed in &SCRIPT {
+        toggle(&mut kept, lit(*signed), &mut steps);
+        if !agrees(alloc, &kept, &CLAUSES)? {
+            return Ok(false);
+        }
+    }
+    Ok(kept.len() == CLAUSES.len())
 }
 
 #[test]
 fn keeps_slacks(rt: HostRuntime) -> Result<(), Fail> {
-    let shown = slacks::<Brand>(rt.alloc(), Blank::new(1))?;
-    assert_eq!(rt; shown.as_slice(), [-1, 0].as_slice());
+    assert!(rt; slacks_in_turn::<Brand>(rt.alloc(), Blank::new(1))?);
     Ok(())
 }

@@ -122,7 +122,7 @@ impl MemoryFolder {
 }
 
 impl Folder for MemoryFolder {
-    ghost use Rattle.std.specs.Prelude.{◌≡◌, ◌↔◌, ◌+◌, ◌-◌, ◌^◌, min, [], Contains, IfOk, IfSome, OnOk, OnErr, IsErr, IsErrOf, Some};
+    ghost use Rattle.std.specs.Prelude.{◌≡◌, ◌↔◌, [], Contains, IfOk, IfSome, OnOk, OnErr, IsErr, IsErrOf, Some};
     ghost use Rattle.std.specs.Option.{option_copied};
     ghost use Rattle.folder_core.specs.Cause.{HasCause};
     ghost use Rattle.folder_core.specs.Crash.{IsImage, Touches, Narrows, Elapses};
@@ -132,7 +132,7 @@ impl Folder for MemoryFolder {
     ghost use Rattle.folder_core.specs.Step.{Step};
     ghost use Rattle.folder_memory.specs.Memory.{schedule_of, told_by};
     ghost use Rattle.folder_memory.specs.Obeys.{Obeys};
-    ghost use Rattle.folder_memory.specs.Schedule.{FailsNext};
+    ghost use Rattle.folder_memory.specs.Schedule.{Counts, FailsNext};
     ghost use Rattle.folder_memory.specs.State.{state_of, LeftSince};
     ghost use Rattle.folder_core.specs.Formed.{IsFormed-had};
     ghost use Rattle.folder_memory.specs.Moments.{image_now, counts_now, only_now};
@@ -163,7 +163,7 @@ impl Folder for MemoryFolder {
 
         // It fails exactly where it is told to, but for want of memory.
         ensures fails { Obeys (FailsNext (schedule_of self.old)) result }
-        ensures calls { (schedule_of self.new).calls ≡ min ((schedule_of self.old).calls + 1) (2 ^ 64 - 1) }
+        ensures counts { Counts (FailsNext (schedule_of self.old)) (schedule_of self.old) (schedule_of self.new) }
     {
         if self.schedule.next() {
             return Err(FolderError::Failed);
@@ -184,7 +184,7 @@ impl Folder for MemoryFolder {
 
         // It fails exactly where it is told to, but for want of memory.
         ensures fails { Obeys (FailsNext (schedule_of self.old)) result }
-        ensures calls { (schedule_of self.new).calls ≡ min ((schedule_of self.old).calls + 1) (2 ^ 64 - 1) }
+        ensures counts { Counts (FailsNext (schedule_of self.old)) (schedule_of self.old) (schedule_of self.new) }
     {
         if self.schedule.next() {
             return Err(FolderError::Failed);
@@ -217,7 +217,7 @@ impl Folder for MemoryFolder {
 
         // It fails exactly where it is told to, but for want of memory.
         ensures fails { Obeys (FailsNext (schedule_of self.old)) result }
-        ensures calls { (schedule_of self.new).calls ≡ min ((schedule_of self.old).calls + 1) (2 ^ 64 - 1) }
+        ensures counts { Counts (FailsNext (schedule_of self.old)) (schedule_of self.old) (schedule_of self.new) }
         // Where it fails, its path stays as it was.
         ensures failed { OnErr result ((told_by self.new).now ≡ (told_by self.old).now) }
     {
@@ -243,7 +243,7 @@ impl Folder for MemoryFolder {
 
         // It fails exactly where it is told to.
         ensures fails { IsErr result ↔ FailsNext (schedule_of self.old) }
-        ensures calls { (schedule_of self.new).calls ≡ min ((schedule_of self.old).calls + 1) (2 ^ 64 - 1) }
+        ensures counts { Counts (FailsNext (schedule_of self.old)) (schedule_of self.old) (schedule_of self.new) }
     {
         if self.schedule.next() {
             return Err(Failed);

@@ -2,7 +2,7 @@ ghost use Rattle.std.specs.Prelude.{◌↔◌, Contains, IsTrue, MatchOption};
 ghost use Rattle.folder_memory.specs.Image.{AreTouched, IsFirstUntouched};
 
 use folder_core::{Path, Touch};
-use osgi_version::NoMemory;
+use osgi_version::{NoMemory, Twin};
 use thiserror::Error;
 
 /// Why no image was made.
@@ -26,6 +26,12 @@ impl From<NoMemory> for ImageFault {
 
     fn from(_error: NoMemory) -> ImageFault {
         ImageFault::NoMemory
+    }
+}
+
+impl Twin for ImageFault {
+    fn copy(&self) -> Result<ImageFault, NoMemory> {
+        Ok(*self)
     }
 }
 

@@ -35,6 +35,12 @@ impl From<NoMemory> for PutFault {
     }
 }
 
+impl Twin for PutFault {
+    fn copy(&self) -> Result<PutFault, NoMemory> {
+        Ok(*self)
+    }
+}
+
 #[derive(Debug, Drop)]
 struct MemoryFile {
     path: Path,

@@ -1,5 +1,6 @@
 pub mod Below
 pub mod Found
+pub mod Images
 pub mod Kids
 pub mod Made
 pub mod Places

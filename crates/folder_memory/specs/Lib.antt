@@ -1,5 +1,7 @@
 pub mod Below
 pub mod Files
+pub mod Formed
+pub mod Image
 pub mod Memory
 pub mod MemorySink
 pub mod MemoryTree

@@ -1,5 +1,5 @@
 -- Which calls of an object fail.
-use Rattle.std.specs.Prelude.{◌≡◌, ◌⊎◌, ◌+◌, ◌-◌, ◌^◌, ◌≤◌, Bool, [], min, Contains, None, IsSomeAnd, if◌then◌else◌}
+use Rattle.std.specs.Prelude.{◌≡◌, ◌⊎◌, ◌↔◌, ◌+◌, ◌-◌, ◌^◌, ◌≤◌, Bool, [], min, Contains, IsTrue, None, IsSomeAnd, if◌then◌else◌}
 use Rattle.folder_memory.specs.declared.schedule.Schedule.{Schedule}
 
 -- no call was made, and none fails
@@ -15,3 +15,9 @@ FailsNext s =
 -- one more call, and one more fault where it failed; the counts end with their type
 abbrev pub after_call : Bool → Schedule → Schedule
 after_call failed s = record s { calls = min (s.calls + 1) (2 ^ 64 - 1); faults = if failed then min (s.faults + 1) (2 ^ 64 - 1) else s.faults }
+
+-- One more call was counted, and one more fault exactly where it had to fail. All else stays as it was told.
+pub record Counts (Fails : Type 0) (old new : Schedule) : Type 0 where
+  pub failed : Bool
+  pub told : IsTrue failed ↔ Fails
+  pub counted : new ≡ after_call failed old

@@ -3,9 +3,10 @@ ghost use Rattle.folder_core.specs.Folder.{IsFormed};
 ghost use Rattle.folder_memory.specs.State.{state_of, LeftSince};
 
 use crate::history::History;
+use crate::image::{ImageFault, first_untouched};
 use crate::nodes::{copied, has_below, is_directory, kids_of};
 use crate::schedule::Schedule;
-use folder_core::{Failed, Folder, FolderError, Name, Node, Path};
+use folder_core::{Failed, Folder, FolderError, Name, Node, Path, Touch};
 use osgi_version::List;
 use std::alloc::Global;
 
@@ -21,9 +22,11 @@ pub struct MemoryFolder {
 }
 
 impl MemoryFolder {
-    ghost use Rattle.std.specs.Prelude.{[], ◌↔◌, IsTrue, None};
+    ghost use Rattle.std.specs.Prelude.{[], ◌↔◌, IfOk, IsTrue, None};
     ghost use Rattle.std.specs.Option.{option_copied};
-    ghost use Rattle.folder_core.specs.Folder.{CanSet};
+    ghost use Rattle.folder_core.specs.Crash.{IsImage};
+    ghost use Rattle.folder_core.specs.Folder.{CanSet, Map};
+    ghost use Rattle.folder_memory.specs.Image.{Admits, BeginsWith, IsChoiceOf, OkOrNoMemory, chosen_of};
     ghost use Rattle.folder_memory.specs.Memory.{schedule_of, told_by};
     ghost use Rattle.folder_memory.specs.Schedule.{quiet};
     ghost use Rattle.folder_memory.specs.State.{first_state};
@@ -87,10 +90,39 @@ impl MemoryFolder {
         };
         self.history.has_directory(parent) && !has_below(&self.history.nodes, path)
     }
+
+    /// The folder as a crash may leave it: with these nodes at touched paths, and with what was synced at the others. Of
+    /// two choices for one path the later counts. Nothing is touched in it, and no call fails.
+    pub fn image(&self, alloc: Global, choice: &List<Touch>) -> Result<MemoryFolder, ImageFault>
+        ensures begins { IfOk result (λ image. BeginsWith (told_by image) (chosen_of (told_by self.now) choice.now)) }
+        ensures image { IfOk result (λ image. IsImage (told_by self.now) (told_by image).now) }
+        ensures schedule { IfOk result (λ image. schedule_of image ≡ quiet) }
+        ensures admits { Admits (told_by self.now) choice.now result }
+        // Each image is made by the choices that say what it has at touched paths.
+        ensures each { (m : Map) → IsImage (told_by self.now) m → IsChoiceOf (told_by self.now) m choice.now
+            → OkOrNoMemory (λ image. (told_by image).now ≡ m) result }
+    {
+        let choice = choice.items();
+        if let Some(place) = first_untouched(self.touched(), choice) {
+            return Err(ImageFault::NotTouched {
+                place: place as u64,
+            });
+        }
+        let mut history = self.history.synced(alloc)?;
+        history.set_all(choice)?;
+        if !history.is_formed() {
+            return Err(ImageFault::NotWellFormed);
+        }
+        history.sync();
+        Ok(MemoryFolder {
+            history,
+            schedule: Schedule::new(alloc),
+        })
+    }
 }
 
 impl Folder for MemoryFolder {
-    ghost use Rattle.std.specs.Prelude.{◌≡◌, ◌↔◌, ◌+◌, ◌-◌, ◌^◌, min, [], Contains, IfOk, IfSome, OnOk, OnErr, IsErr, IsErrOf, Some};
+    ghost use Rattle.std.specs.Prelude.{◌≡◌, ◌↔◌, [], Contains, IfOk, IfSome, OnOk, OnErr, IsErr, IsErrOf, Some};
     ghost use Rattle.std.specs.Option.{option_copied};
     ghost use Rattle.folder_core.specs.Cause.{HasCause};
     ghost use Rattle.folder_core.specs.Crash.{IsImage, Touches, Narrows, Elapses};
@@ -100,7 +132,7 @@ impl Folder for MemoryFolder {
     ghost use Rattle.folder_core.specs.Step.{Step};
     ghost use Rattle.folder_memory.specs.Memory.{schedule_of, told_by};
     ghost use Rattle.folder_memory.specs.Obeys.{Obeys};
-    ghost use Rattle.folder_memory.specs.Schedule.{FailsNext};
+    ghost use Rattle.folder_memory.specs.Schedule.{Counts, FailsNext};
     ghost use Rattle.folder_memory.specs.State.{state_of, LeftSince};
     ghost use Rattle.folder_core.specs.Formed.{IsFormed-had};
     ghost use Rattle.folder_memory.specs.Moments.{image_now, counts_now, only_now};
@@ -131,7 +163,7 @@ impl Folder for MemoryFolder {
 
         // It fails exactly where it is told to, but for want of memory.
         ensures fails { Obeys (FailsNext (schedule_of self.old)) result }
-        ensures calls { (schedule_of self.new).calls ≡ min ((schedule_of self.old).calls + 1) (2 ^ 64 - 1) }
+        ensures counts { Counts (FailsNext (schedule_of self.old)) (schedule_of self.old) (schedule_of self.new) }
     {
         if self.schedule.next() {
             return Err(FolderError::Failed);
@@ -152,7 +184,7 @@ impl Folder for MemoryFolder {
 
         // It fails exactly where it is told to, but for want of memory.
         ensures fails { Obeys (FailsNext (schedule_of self.old)) result }
-        ensures calls { (schedule_of self.new).calls ≡ min ((schedule_of self.old).calls + 1) (2 ^ 64 - 1) }
+        ensures counts { Counts (FailsNext (schedule_of self.old)) (schedule_of self.old) (schedule_of self.new) }
     {
         if self.schedule.next() {
             return Err(FolderError::Failed);
@@ -185,7 +217,7 @@ impl Folder for MemoryFolder {
 
         // It fails exactly where it is told to, but for want of memory.
         ensures fails { Obeys (FailsNext (schedule_of self.old)) result }
-        ensures calls { (schedule_of self.new).calls ≡ min ((schedule_of self.old).calls + 1) (2 ^ 64 - 1) }
+        ensures counts { Counts (FailsNext (schedule_of self.old)) (schedule_of self.old) (schedule_of self.new) }
         // Where it fails, its path stays as it was.
         ensures failed { OnErr result ((told_by self.new).now ≡ (told_by self.old).now) }
     {
@@ -211,7 +243,7 @@ impl Folder for MemoryFolder {
 
         // It fails exactly where it is told to.
         ensures fails { IsErr result ↔ FailsNext (schedule_of self.old) }
-        ensures calls { (schedule_of self.new).calls ≡ min ((schedule_of self.old).calls + 1) (2 ^ 64 - 1) }
+        ensures counts { Counts (FailsNext (schedule_of self.old)) (schedule_of self.old) (schedule_of self.new) }
     {
         if self.schedule.next() {
             return Err(Failed);

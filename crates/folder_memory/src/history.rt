@@ -1,7 +1,9 @@
-ghost use Rattle.std.specs.Prelude.{◌≡◌, ◌≢◌, ◌<◌, ◌↔◌, ◌++◌, ◌∷◌, [], List, ℕ, IfOk, IsTrue, OnErr, OnOk, Some, vec_len, vec_capacity};
+ghost use Rattle.std.specs.Prelude.{◌≡◌, ◌≢◌, ◌<◌, ◌≤◌, ◌↔◌, ◌++◌, ◌∷◌, [], List, ℕ, All, Contains, IfOk, IsTrue, OnErr, OnOk, Some, length, take, vec_len, vec_capacity};
 ghost use Rattle.std.specs.Option.{option_copied};
 ghost use Rattle.folder_core.specs.declared.node.Node.TheVariants.{Dir};
+ghost use Rattle.folder_core.specs.Folder.{IsFormed};
 ghost use Rattle.folder_core.specs.Path.{IsPath};
+ghost use Rattle.folder_core.specs.declared.node.Touch.{Touch};
 ghost use Rattle.folder_memory.specs.Nodes.{map_of};
 
 use crate::nodes::{Nodes, copied, copied_path, find, is_directory, node_at, place};
@@ -18,6 +20,7 @@ pub(crate) enum Event {
 }
 
 ghost use Rattle.folder_memory.specs.State.{state_of};
+ghost use Rattle.folder_memory.specs.declared.history.Event.TheVariants.{Set};
 
 /// The record of a folder's calls, and what stands after them.
 #[derive(Debug, Drop)]
@@ -32,12 +35,14 @@ pub(crate) struct History {
     ghost root_is: { ∥ root ≡ Dir ∥₁ },
     ghost stands: { ∥ ((path : List (List ℕ)) → (state_of events.items).now path ≡ map_of Dir nodes path) ∥₁ },
     ghost unsynced: { touched.items ≡ (state_of events.items).touched },
+    ghost no_root: { ∥ ((touch : Touch) → Contains events.items (Set touch) → touch.path ≢ []) ∥₁ },
     /// A sync finds room for its mark.
     ghost room: { (touched.items ≡ [] → ⊥) → vec_len events < vec_capacity events },
 }
 
 impl History {
-    ghost use Rattle.folder_memory.specs.declared.history.Event.TheVariants.{Set};
+    ghost use Rattle.folder_memory.specs.Formed.{IsWellAt};
+    ghost use Rattle.folder_memory.specs.Image.{set_all};
     ghost use Rattle.folder_memory.specs.State.{MaySync};
 
     pub(crate) fn new(alloc: Global) -> History
@@ -104,5 +109,70 @@ impl History {
         if self.events.push(Event::Sync).is_err() {
             unreachable!();
         }
+    }
+
+    /// How many events there were at the last sync, or none.
+    fn synced_events(&self) -> usize
+        ensures within { result ≤ length self.now.events.items }
+        ensures synced { (state_of (take result self.now.events.items)).now ≡ (state_of self.now.events.items).synced }
+    {
+        let mut count = 0;
+        for (place, event) in self.events.iter().enumerate() {
+            if let Event::Sync = event {
+                count = place + 1;
+            }
+        }
+        count
+    }
+
+    /// What stood at the last sync, in a record of its own.
+    pub(crate) fn synced(&self, alloc: Global) -> Result<History, NoMemory>
+        ensures { IfOk result (λ synced. (state_of synced.events.items).now ≡ (state_of self.now.events.items).synced) }
+    {
+        let count = self.synced_events();
+        let mut synced = History::new(alloc);
+        for event in &self.events.as_slice()[..count] {
+            if let Event::Set(touch) = event {
+                synced.set(&touch.path, touch.node.as_ref())?;
+            }
+        }
+        Ok(synced)
+    }
+
+    /// Sets these in turn.
+    pub(crate) fn set_all(&mut self, choice: &[Touch]) -> Result<(), NoMemory>
+        requires { All (λ touch. touch.path ≢ []) choice.now }
+        ensures { OnOk result ((state_of self.new.events.items).now ≡ set_all (state_of self.old.events.items).now choice.now) }
+    {
+        for touch in choice {
+            self.set(&touch.path, touch.node.as_ref())?;
+        }
+        Ok(())
+    }
+
+    /// Whether what stands at a path stands below a directory and may stand there.
+    fn is_well_at(&self, path: &Path) -> bool
+        ensures well { IsTrue result ↔ IsWellAt (state_of self.now.events.items).now path.now }
+        ensures path { IsPath path.now }
+    {
+        let Some((_, parent)) = path.names().items().split_last() else {
+            return true;
+        };
+        let Some(node) = self.node(path) else {
+            return true;
+        };
+        node.may_stand_at(path) && self.has_directory(parent)
+    }
+
+    /// Whether what stands is well formed.
+    pub(crate) fn is_formed(&self) -> bool
+        ensures { IsTrue result ↔ IsFormed (state_of self.now.events.items).now }
+    {
+        for path in self.nodes.keys() {
+            if !self.is_well_at(path) {
+                return false;
+            }
+        }
+        true
     }
 }

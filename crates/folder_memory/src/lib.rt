@@ -4,6 +4,7 @@
 
 mod folder;
 mod history;
+mod image;
 mod names;
 mod nodes;
 mod schedule;
@@ -13,5 +14,6 @@ mod tests;
 mod tree;
 
 pub use folder::MemoryFolder;
+pub use image::ImageFault;
 pub use stream::{MemoryInput, MemorySink};
 pub use tree::{MemoryTree, PutFault};

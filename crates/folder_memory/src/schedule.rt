@@ -20,7 +20,7 @@ pub(crate) struct Schedule {
 }
 
 impl Schedule {
-    ghost use Rattle.folder_memory.specs.Schedule.{quiet, FailsNext, after_call};
+    ghost use Rattle.folder_memory.specs.Schedule.{quiet, Counts, FailsNext, after_call};
 
     /// No call fails.
     pub(crate) fn new(alloc: Global) -> Schedule
@@ -55,7 +55,7 @@ impl Schedule {
     /// Counts a call, and answers whether it fails, which counts as a fault.
     pub(crate) fn next(&mut self) -> bool
         ensures fails { IsTrue result ↔ FailsNext self.old }
-        ensures counts { self.new ≡ after_call result self.old }
+        ensures counts { Counts (FailsNext self.old) self.old self.new }
         ensures cause { HasCause self.old.faults self.new.faults (IsTrue result) }
     {
         self.next_or(false)

@@ -16,9 +16,13 @@ pub struct MemoryInput {
 }
 
 impl MemoryInput {
+    ghost use Rattle.folder_memory.specs.MemorySink.{input_schedule};
+    ghost use Rattle.folder_memory.specs.Schedule.{quiet};
+
     /// An input of these bytes. The listed calls fail, counted from 1.
     pub fn new(alloc: Global, bytes: List<u8>, failing: List<u64>) -> MemoryInput
-        ensures { ⟦<MemoryInput as Input>⟧.told result ≡ Some bytes }
+        ensures told { ⟦<MemoryInput as Input>⟧.told result ≡ Some bytes }
+        ensures schedule { input_schedule result ≡ record quiet { listed = failing } }
     {
         let mut schedule = Schedule::new(alloc);
         schedule.fail_at(failing);
@@ -47,7 +51,7 @@ impl Input for MemoryInput {
     ghost use Rattle.folder_core.specs.Step.{Step};
     ghost use Rattle.folder_core.specs.Stream.{Reads};
     ghost use Rattle.folder_memory.specs.MemorySink.{input_schedule};
-    ghost use Rattle.folder_memory.specs.Schedule.{FailsNext};
+    ghost use Rattle.folder_memory.specs.Schedule.{Counts, FailsNext};
 
     ghost told = { λ i. Some (drop i.taken i.bytes) };
 
@@ -61,6 +65,7 @@ impl Input for MemoryInput {
 
         // It fails exactly where it is told to.
         ensures fails { IsErr result ↔ FailsNext (input_schedule self.old) }
+        ensures counts { Counts (FailsNext (input_schedule self.old)) (input_schedule self.old) (input_schedule self.new) }
     {
         if self.schedule.next() {
             return Err(Failed);
@@ -83,12 +88,15 @@ pub struct MemorySink {
 }
 
 impl MemorySink {
-    ghost use Rattle.folder_memory.specs.MemorySink.{room_of};
+    ghost use Rattle.std.specs.Prelude.{◌↔◌, IsTrue};
+    ghost use Rattle.folder_memory.specs.MemorySink.{IsFullFor, room_of, sink_schedule};
+    ghost use Rattle.folder_memory.specs.Schedule.{quiet};
 
     /// A sink with room for so many bytes, for which it takes memory at once. The listed calls fail, counted from 1.
     pub fn new(alloc: Global, room: u64, failing: List<u64>) -> Result<MemorySink, NoMemory>
         ensures told { IfOk result (λ sink. ⟦<MemorySink as Sink>⟧.told sink ≡ Some []) }
         ensures room { IfOk result (λ sink. room_of sink ≡ room) }
+        ensures schedule { IfOk result (λ sink. sink_schedule sink ≡ record quiet { listed = failing }) }
     {
         let room = room as usize;
         let bytes = Vec::with_capacity(alloc, room)?;
@@ -108,13 +116,21 @@ impl MemorySink {
     {
         self.bytes.as_slice()
     }
+
+    /// Whether no byte of a piece fits.
+    fn is_full_for(&self, piece: &[u8]) -> bool
+        ensures { IsTrue result ↔ IsFullFor self.now piece.now }
+    {
+        !piece.is_empty() && self.room <= self.bytes.len()
+    }
 }
 
 impl Sink for MemorySink {
-    ghost use Rattle.std.specs.Prelude.{◌≡◌, ◌≤◌, ◌<◌, ◌-◌, ◌++◌, min, length, take, Some, IfOk, OnErr, IsErr};
+    ghost use Rattle.std.specs.Prelude.{◌≡◌, ◌≤◌, ◌<◌, ◌-◌, ◌↔◌, ◌++◌, min, length, take, Some, IfOk, OnErr, IsErr};
     ghost use Rattle.folder_core.specs.Cause.{HasCause};
     ghost use Rattle.folder_core.specs.Step.{Step};
-    ghost use Rattle.folder_memory.specs.MemorySink.{room_of, sink_schedule, written_to};
+    ghost use Rattle.folder_memory.specs.MemorySink.{FailsWrite, room_of, sink_schedule, written_to};
+    ghost use Rattle.folder_memory.specs.Schedule.{Counts};
 
     ghost told = { λ s. Some s.bytes.items };
 
@@ -128,14 +144,17 @@ impl Sink for MemorySink {
         ensures failed { OnErr result (Step (⟦<MemorySink as Sink>⟧.told self.old) (⟦<MemorySink as Sink>⟧.told self.new) (λ s t. t ≡ s)) }
         ensures cause { HasCause (sink_schedule self.old).faults (sink_schedule self.new).faults (IsErr result) }
 
-        // As many bytes as still fit are taken.
+        // It fails exactly where it is told to, and where no byte fits. As many bytes as still fit are taken.
+        ensures fails { IsErr result ↔ FailsWrite self.old piece.now }
+        ensures counts { Counts (FailsWrite self.old piece.now) (sink_schedule self.old) (sink_schedule self.new) }
         ensures fits { IfOk result (λ n. n ≡ min (length piece.now) (room_of self.old - length (written_to self.old))) }
         ensures room { room_of self.new ≡ room_of self.old }
     {
-        let count = piece.len().min(self.room - self.bytes.len());
-        if self.schedule.next_or(count == 0 && !piece.is_empty()) {
+        let is_full = self.is_full_for(piece);
+        if self.schedule.next_or(is_full) {
             return Err(Failed);
         }
+        let count = piece.len().min(self.room - self.bytes.len());
         if self.bytes.extend_from_slice(&piece[..count]).is_err() {
             unreachable!();
         }

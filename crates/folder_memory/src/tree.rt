@@ -35,6 +35,12 @@ impl From<NoMemory> for PutFault {
     }
 }
 
+impl Twin for PutFault {
+    fn copy(&self) -> Result<PutFault, NoMemory> {
+        Ok(*self)
+    }
+}
+
 #[derive(Debug, Drop)]
 struct MemoryFile {
     path: Path,
@@ -138,7 +144,7 @@ impl Tree for MemoryTree {
     ghost use Rattle.folder_core.specs.Tree.{HasBelow};
     ghost use Rattle.folder_memory.specs.Files.{files_of};
     ghost use Rattle.folder_memory.specs.MemoryTree.{told_by, schedule_of};
-    ghost use Rattle.folder_memory.specs.Schedule.{FailsNext};
+    ghost use Rattle.folder_memory.specs.Schedule.{Counts, FailsNext};
 
     ghost told = { λ t. Some (files_of t.files) };
 
@@ -155,6 +161,7 @@ impl Tree for MemoryTree {
 
         // It fails exactly where it is told to, but for want of memory.
         ensures fails { IsErrOf result TreeError.Failed ↔ FailsNext (schedule_of self.old) }
+        ensures counts { Counts (FailsNext (schedule_of self.old)) (schedule_of self.old) (schedule_of self.new) }
     {
         if self.schedule.next() {
             return Err(TreeError::Failed);
@@ -173,6 +180,7 @@ impl Tree for MemoryTree {
 
         // It fails exactly where it is told to, but for want of memory.
         ensures fails { IsErrOf result TreeError.Failed ↔ FailsNext (schedule_of self.old) }
+        ensures counts { Counts (FailsNext (schedule_of self.old)) (schedule_of self.old) (schedule_of self.new) }
     {
         if self.schedule.next() {
             return Err(TreeError::Failed);

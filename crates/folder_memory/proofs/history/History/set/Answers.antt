@@ -7,6 +7,7 @@ use Rattle.folder_memory.specs.Nodes.{map_of}
 use Rattle.folder_memory.specs.State.{state_of}
 use Rattle.folder_memory.specs.declared.history.Event.{Event}
 use Rattle.folder_memory.specs.declared.history.Event.TheVariants.{Set}
+use Rattle.folder_memory.proofs.Images.{no_root_same, no_root_set}
 use Rattle.folder_memory.proofs.States.{stands_same, stands_set, touched_set}
 use Rattle.folder_memory.proofs.history.History.set.Goals as goal
 
@@ -17,6 +18,7 @@ invariant_of-self c =
       root_is = h.root_is;
       stands = stands_same h.events.items c.reserve.new.self.items h.nodes h.nodes c.reserve.ensures.items refl h.stands;
       unsynced = h.unsynced ∙ ap (λ (es : List Event). (state_of es).touched) (sym c.reserve.ensures.items);
+      no_root = no_root_same h.events.items c.reserve.new.self.items c.reserve.ensures.items h.no_root;
       room = λ some. omega (arith, h.room some, c.reserve.ensures.len, c.reserve.ensures.capacity);
     }
 
@@ -27,6 +29,7 @@ invariant_of-self-in-Break-branch-5 c =
       root_is = h.root_is;
       stands = stands_same h.events.items c.reserve.new.self.items h.nodes h.nodes c.reserve.ensures.items refl h.stands;
       unsynced = c.reserve-2.ensures.items ∙ h.unsynced ∙ ap (λ (es : List Event). (state_of es).touched) (sym c.reserve.ensures.items);
+      no_root = no_root_same h.events.items c.reserve.new.self.items c.reserve.ensures.items h.no_root;
       room = λ some. omega (arith, h.room (λ none. some (c.reserve-2.ensures.items ∙ none)), c.reserve.ensures.len, c.reserve.ensures.capacity);
     }
 
@@ -37,6 +40,7 @@ invariant_of-self-in-Break-branch-6 c =
       root_is = h.root_is;
       stands = stands_same h.events.items c.reserve.new.self.items h.nodes c.place.new.nodes c.reserve.ensures.items (c.in_err-place.ensures.err Dir) h.stands;
       unsynced = c.reserve-2.ensures.items ∙ h.unsynced ∙ ap (λ (es : List Event). (state_of es).touched) (sym c.reserve.ensures.items);
+      no_root = no_root_same h.events.items c.reserve.new.self.items c.reserve.ensures.items h.no_root;
       room = λ some. omega (arith, h.room (λ none. some (c.reserve-2.ensures.items ∙ none)), c.reserve.ensures.len, c.reserve.ensures.capacity);
     }
 
@@ -54,5 +58,6 @@ invariant_of-self-2 c =
       unsynced = touched ∙ ap (λ (l : List (List (List ℕ))). l ++ c.in_ok-touched.touched ∷ []) h.unsynced
           ∙ ap (λ (p : List (List ℕ)). (state_of h.events.items).touched ++ p ∷ []) (c.in_ok-touched.ensures ∙ sym c.in_ok-copied_path.ensures.copy)
           ∙ sym (touched_set h.events.items c.push-2.new.self.items touch events);
+      no_root = no_root_set h.events.items c.push-2.new.self.items touch events (λ none. c.requires (sym c.in_ok-copied_path.ensures.copy ∙ none)) h.no_root;
       room = λ some. omega (arith, c.in_ok-reserve.ensures.ok, c.push-2.ensures.upper_bound, c.push-2.ensures.capacity);
     }

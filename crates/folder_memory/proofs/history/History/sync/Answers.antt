@@ -1,5 +1,6 @@
 use Rattle.std.proofs.Common.{◌≡◌, [], ◌∷◌, ◌++◌, sym, ◌∙◌, rules}
 use Rattle.folder_memory.specs.declared.history.Event.TheVariants.{Sync}
+use Rattle.folder_memory.proofs.Images.{no_root_sync}
 use Rattle.folder_memory.proofs.States.{all_synced, stands_sync, touched_sync, none_there}
 use Rattle.folder_memory.proofs.history.History.sync.Goals as goal
 
@@ -16,5 +17,6 @@ invariant_of-self c =
       root_is = h.root_is;
       stands = stands_sync h.events.items c.push.new.self.items h.nodes events h.stands;
       unsynced = c.clear.ensures.items ∙ sym (touched_sync h.events.items c.push.new.self.items events);
+      no_root = no_root_sync h.events.items c.push.new.self.items events h.no_root;
       room = λ some. absurd (some c.clear.ensures.items);
     }

@@ -1,3 +1,4 @@
 pub mod LineLaws
 pub mod Soundness
 pub mod TrailLaws
+pub mod UsedLaws

@@ -2,6 +2,8 @@ pub mod Answers
 pub mod Database
 pub mod HintRule
 pub mod LineRule
+pub mod Marks
 pub mod Sound
 pub mod Trail
+pub mod Used
 pub mod Verdict

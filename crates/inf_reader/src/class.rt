@@ -14,7 +14,6 @@ pub(crate) enum Class {
     Plain,
     Version,
     Range,
-    Filter,
 }
 
 /// A list of rows.
@@ -37,7 +36,7 @@ pub(crate) fn unit_part(name: &[u8]) -> Option<Class>
     } else if name == b"singleton".as_slice() {
         Some(Class::Plain)
     } else if name == b"filter".as_slice() {
-        Some(Class::Filter)
+        Some(Class::LeftOut)
     } else if name == b"touchpoint.id".as_slice() {
         Some(Class::Plain)
     } else if name == b"touchpoint.version".as_slice() {
@@ -147,7 +146,7 @@ pub(crate) fn required_field(name: &[u8]) -> Option<Class>
     } else if name == b"multiple".as_slice() {
         Some(Class::Plain)
     } else if name == b"filter".as_slice() {
-        Some(Class::Filter)
+        Some(Class::LeftOut)
     } else if name == b"min".as_slice() {
         Some(Class::Plain)
     } else if name == b"max".as_slice() {

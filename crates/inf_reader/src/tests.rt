@@ -249,7 +249,7 @@ fn describes_units(rt: HostRuntime) -> Result<(), Fail> {
 
 #[test]
 fn refuses_descriptions(rt: HostRuntime) -> Result<(), Fail> {
-    let worked: [(&str, &[u8], &str); 39] = [
+    let worked: [(&str, &[u8], &str); 41] = [
         ("f", b"units.0.colour=red", "unknown units.0.colour"),
         ("h_1.0.0", b"id=a", "unknown id"),
         ("h_1.0.0", b"artifacts.0.id=a", "unknown artifacts.0.id"),
@@ -292,6 +292,12 @@ fn refuses_descriptions(rt: HostRuntime) -> Result<(), Fail> {
             "left out units.3.requires.4.matchExp",
         ),
         ("f", b"update.matchExp=a", "left out update.matchExp"),
+        ("f", b"units.3.filter=(a=b)", "left out units.3.filter"),
+        (
+            "f",
+            b"requires.0.filter=(a=b)",
+            "left out requires.0.filter",
+        ),
         ("f", b"provides.0.name=a", "no host provides.0.name"),
         ("f", b"copyright=a $qualifier$", "no host copyright"),
         ("_1.0.0", b"update.severity=1", "no host update.severity"),

@@ -1,0 +1,9 @@
+pub mod EntryLemmas
+pub mod HostLemmas
+pub mod IdLemmas
+pub mod PlaceLemmas
+pub mod ReplacedLemmas
+pub mod RowLemmas
+pub mod Steps
+pub mod TruthLemmas
+pub mod UnitLemmas

@@ -1,0 +1,16 @@
+pub mod Classes
+pub mod Cut
+pub mod Entries
+pub mod Gives
+pub mod Host
+pub mod KeyText
+pub mod Meaning
+pub mod Number
+pub mod Parts
+pub mod Placing
+pub mod Readings
+pub mod Replaced
+pub mod TableAt
+pub mod UnitParts
+pub mod UnitsOf
+pub mod Variable

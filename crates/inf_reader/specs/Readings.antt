@@ -1,0 +1,32 @@
+-- How the texts of values are read.
+use Rattle.std.specs.Prelude.{ℕ, List, Option, Some, None}
+use Rattle.osgi_version.specs.declared.version.Version.{Version}
+use Rattle.osgi_version.specs.declared.range.Range.{Range}
+use Rattle.osgi_version.specs.VersionText.{DenotesVersion}
+use Rattle.osgi_version.specs.RangeText.{DenotesRange}
+use Rattle.inf_reader.specs.declared.class.Class.{Class}
+use Rattle.inf_reader.specs.declared.class.Class.TheVariants as class
+use Rattle.inf_reader.specs.declared.value.Value.{Value}
+use Rattle.inf_reader.specs.declared.value.Value.TheVariants as values
+
+-- What the text denotes, or nothing where it denotes nothing. Each text has one such reading, since the grammars
+-- have one value for each of their texts.
+abbrev pub Reads : {X : Type 0} → (List ℕ → X → Type 0) → List ℕ → Option X → Type 0
+Reads Denotes text (Some x) = Denotes text x
+Reads {X} Denotes text None = (x : X) → ¬ (Denotes text x)
+
+-- a way to read versions and ranges
+pub record Readings : Type 0 where
+  pub version : List ℕ → Option Version
+  pub range : List ℕ → Option Range
+
+-- Every text is read as what it denotes.
+pub record ReadsAll (read : Readings) : Type 0 where
+  pub version : (text : List ℕ) → Reads DenotesVersion text (read.version text)
+  pub range : (text : List ℕ) → Reads DenotesRange text (read.range text)
+
+-- the value of a key of this class
+abbrev pub value_of : Readings → Class → List ℕ → Value
+value_of read class.Version text = values.Version (read.version text)
+value_of read class.Range text = values.Range (read.range text)
+value_of read _ text = values.Plain text

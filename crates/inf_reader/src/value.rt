@@ -1,0 +1,56 @@
+//! The values of keys, as they are read.
+
+ghost use Rattle.std.specs.Prelude.{◌≡◌, IfOk, IfSome, Option};
+ghost use Rattle.osgi_version.specs.VersionText.{DenotesVersion, IsVersion};
+ghost use Rattle.osgi_version.specs.RangeText.{DenotesRange};
+ghost use Rattle.osgi_version.specs.declared.version.Version.{Version};
+ghost use Rattle.osgi_version.specs.declared.range.Range.{Range};
+ghost use Rattle.inf_reader.specs.Readings.{Readings, ReadsAll, Reads, value_of};
+
+use crate::class::Class;
+use osgi_version::{NoMemory, Range, Text, Version, VersionFault};
+use std::alloc::Global;
+
+/// A value, read as its key's class says. None is a text of another form.
+#[derive(Debug, Drop)]
+pub(crate) enum Value {
+    Plain(Text),
+    Version(Option<Version>),
+    Range(Option<Range>),
+}
+
+/// The version that the text denotes, if it denotes one.
+pub(crate) fn version_of(alloc: Global, text: &[u8]) -> Result<Option<Version>, NoMemory>
+    ensures form { IfOk result (λ found. IfSome found IsVersion) }
+    ensures value { IfOk result (λ found. (other : Option Version) → Reads DenotesVersion text.now other → found ≡ other) }
+{
+    match Version::parse(alloc, text) {
+        Ok(version) => Ok(Some(version)),
+        Err(VersionFault::NoMemory) => Err(NoMemory),
+        Err(VersionFault::Raw) => Ok(None),
+        Err(VersionFault::Bad { .. }) => Ok(None),
+    }
+}
+
+/// The range that the text denotes, if it denotes one.
+fn range_of(alloc: Global, text: &[u8]) -> Result<Option<Range>, NoMemory>
+    ensures { IfOk result (λ found. (other : Option Range) → Reads DenotesRange text.now other → found ≡ other) }
+{
+    match Range::parse(alloc, text) {
+        Ok(range) => Ok(Some(range)),
+        Err(VersionFault::NoMemory) => Err(NoMemory),
+        Err(VersionFault::Raw) => Ok(None),
+        Err(VersionFault::Bad { .. }) => Ok(None),
+    }
+}
+
+/// The value of a key of this class.
+pub(crate) fn value_of(alloc: Global, class: Class, text: Text) -> Result<Value, NoMemory>
+    ensures { IfOk result (λ value. (read : Readings) → ReadsAll read → value ≡ value_of read class text) }
+{
+    match class {
+        Class::Version => Ok(Value::Version(version_of(alloc, text.bytes())?)),
+        Class::Range => Ok(Value::Range(range_of(alloc, text.bytes())?)),
+        _ => Ok(Value::Plain(text)),
+    }
+}

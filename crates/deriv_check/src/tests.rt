@@ -4,8 +4,8 @@ ghost use Rattle.std.specs.Prelude.{◌≤◌, length, All, IfOk, IfSome};
 ghost use Rattle.pb_core.specs.AtLeast.{at_least};
 ghost use Rattle.pb_core.specs.Normal.{IsNormalOver};
 
-use crate::{CheckFault, Derivation, Line, Verdict, Why, check, used};
-use osgi_version::{List, NoMemory, Text};
+use crate::{CheckFault, Derivation, Evidence, Line, Verdict, Why, check, used};
+use osgi_version::{List, NoMemory, Text, Twin};
 use pb_core::{Constraint, Lit, Origin, Problem, SignedTerm, normalise};
 use std::alloc::Global;
 use std::process::Abort;
@@ -175,5 +175,15 @@ fn uses(rt: HostRuntime) -> Result<(), Fail> {
         let found = numbers(&rt, rt.alloc(), &over, lines)?.expect(&rt, "it checks");
         assert_eq!(rt; found.items(), wanted);
     }
+    Ok(())
+}
+
+#[test]
+fn copies(rt: HostRuntime) -> Result<(), Fail> {
+    let evidence = Evidence {
+        problem: problem(&rt, rt.alloc(), &["x/1.0.0"], &[&[1]])?,
+        derivation: derivation(rt.alloc(), &[(&[1], &[1])])?,
+    };
+    assert!(rt; evidence.copy()? == evidence);
     Ok(())
 }

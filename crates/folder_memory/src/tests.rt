@@ -6,7 +6,7 @@ ghost use Rattle.folder_core.specs.Step.{OnTold};
 
 use super::*;
 use folder_core::{
-    Blob, Failed, Folder, FolderError, Input, Name, Node, Path, Sink, Tree, TreeError,
+    Blob, Failed, Folder, FolderError, Input, Name, Node, Path, Sink, Touch, Tree, TreeError,
 };
 use osgi_version::{List, NoMemory, Text};
 use std::alloc::Global;
@@ -182,6 +182,7 @@ fn a_memory_tree_keeps_files(rt: HostRuntime) -> Result<(), Fail> {
         ("b", false),
         ("b/a", true),
         ("a", true),
+        ("a/b", false),
         ("b/c-", true),
     ];
     for (at, want) in puts {
@@ -316,5 +317,89 @@ fn a_sink_has_room(rt: HostRuntime) -> Result<(), Fail> {
         assert!(rt; sink.write(piece.as_bytes()) == want, "of {piece:?}");
     }
     assert_eq!(rt; sink.bytes(), b"abcde".as_slice());
+    Ok(())
+}
+
+// `d` and `d/a` are synced, and `d/a`, `d/b`, `e` and `e/f` are touched.
+fn half_synced(alloc: Global) -> Result<MemoryFolder, Fail> {
+    let mut folder = MemoryFolder::new(alloc);
+    put_at(alloc, &mut folder, "d", "/")?;
+    put_at(alloc, &mut folder, "d/a", "first")?;
+    folder.sync()?;
+    for (at, kind) in [("d/a", "second"), ("d/b", "x"), ("e", "/"), ("e/f", "y")] {
+        put_at(alloc, &mut folder, at, kind)?;
+    }
+    Ok(folder)
+}
+
+fn choice_of(alloc: Global, listed: [(&str, &str); 2]) -> Result<List<Touch>, Fail> {
+    let mut choice = List::new(alloc);
+    for (at, kind) in listed {
+        choice.push(Touch {
+            path: path_of(alloc, at)?,
+            node: node_of(alloc, kind)?,
+        })?;
+    }
+    Ok(choice)
+}
+
+#[test]
+fn an_image_has_what_was_chosen(rt: HostRuntime) -> Result<(), Fail> {
+    let alloc = rt.alloc();
+    let folder = half_synced(alloc)?;
+    let looks = [
+        ([("d/a", "second"), ("d/a", "third")], "d/a", "third"),
+        ([("d/a", "second"), ("d/a", "third")], "d/b", ""),
+        ([("d/b", "x"), ("d/a", "")], "d/a", ""),
+        ([("d/b", "x"), ("d/a", "")], "d/b", "x"),
+        ([("e", "/"), ("e/f", "z")], "d/a", "first"),
+        ([("e", "/"), ("e/f", "z")], "e/f", "z"),
+        ([("e", "/"), ("e", "")], "e", ""),
+    ];
+    for (chosen, at, kind) in looks {
+        let choice = choice_of(alloc, chosen)?;
+        let mut image = folder.image(alloc, &choice)?;
+        assert!(rt; finds_at(alloc, &mut image, at, kind)?, "at {at}");
+        assert!(rt; image.touched().is_empty());
+    }
+    Ok(())
+}
+
+#[test]
+fn an_image_of_nothing_chosen_is_what_was_synced(rt: HostRuntime) -> Result<(), Fail> {
+    let alloc = rt.alloc();
+    let mut folder = half_synced(alloc)?;
+    folder.fuse(0);
+    let mut image = folder.image(alloc, &List::new(alloc))?;
+    for (at, kind) in [("d", "/"), ("d/a", "first"), ("d/b", ""), ("e", "")] {
+        assert!(rt; finds_at(alloc, &mut image, at, kind)?, "at {at}");
+    }
+    assert_eq!(rt; image.calls(), 4);
+    Ok(())
+}
+
+#[test]
+fn an_image_is_refused(rt: HostRuntime) -> Result<(), Fail> {
+    let alloc = rt.alloc();
+    let folder = half_synced(alloc)?;
+    let refusals = [
+        (
+            [("d", "/"), ("g", "/")],
+            ImageFault::NotTouched { place: 0 },
+        ),
+        (
+            [("d/a", "x"), ("", "/")],
+            ImageFault::NotTouched { place: 1 },
+        ),
+        ([("e/f", "y"), ("d/a", "x")], ImageFault::NotWellFormed),
+        ([("e", "x"), ("e/f", "y")], ImageFault::NotWellFormed),
+    ];
+    for (chosen, want) in refusals {
+        let choice = choice_of(alloc, chosen)?;
+        assert!(rt;
+            folder.image(alloc, &choice).err() == Some(want),
+            "not {want:?}"
+        );
+    }
     Ok(())
 }

@@ -152,28 +152,60 @@ fn property(alloc: Global) -> Result<Property, NoMemory> {
     })
 }
 
-fn unit(alloc: Global) -> Result<Unit, NoMemory> {
+/// A unit with nothing but a name and an update.
+fn bare_unit(alloc: Global) -> Result<Unit, NoMemory> {
+    let name = name(alloc)?;
+    let update = update(alloc)?;
     Ok(Unit {
-        name: name(alloc)?,
+        name,
         singleton: true,
-        filter: Some(filter(alloc)?),
-        update: update(alloc)?,
-        touchpoint: Some(touchpoint(alloc)?),
-        properties: one(alloc, property(alloc)?)?,
-        provided: one(alloc, capability(alloc)?)?,
-        required: one(alloc, required(alloc)?)?,
-        artifacts: one(alloc, artifact(alloc)?)?,
-        phases: one(alloc, phase(alloc)?)?,
+        filter: None,
+        update,
+        touchpoint: None,
+        properties: List::new(alloc),
+        provided: List::new(alloc),
+        required: List::new(alloc),
+        artifacts: List::new(alloc),
+        phases: List::new(alloc),
     })
+}
+
+/// Adds what the unit gives and asks for.
+fn add_capabilities(alloc: Global, unit: &mut Unit) -> Result<(), NoMemory> {
+    unit.filter = Some(filter(alloc)?);
+    unit.provided.push(capability(alloc)?)?;
+    unit.required.push(required(alloc)?)?;
+    Ok(())
+}
+
+/// Adds what the unit's files and actions are.
+fn add_actions(alloc: Global, unit: &mut Unit) -> Result<(), NoMemory> {
+    unit.touchpoint = Some(touchpoint(alloc)?);
+    unit.properties.push(property(alloc)?)?;
+    unit.artifacts.push(artifact(alloc)?)?;
+    unit.phases.push(phase(alloc)?)?;
+    Ok(())
+}
+
+fn unit(alloc: Global) -> Result<Unit, NoMemory> {
+    let mut unit = bare_unit(alloc)?;
+    add_capabilities(alloc, &mut unit)?;
+    add_actions(alloc, &mut unit)?;
+    Ok(unit)
+}
+
+/// Whether a copy of the unit is equal to it, and no longer is where one part differs.
+fn copies(unit: &Unit) -> Result<bool, NoMemory> {
+    let mut copied = unit.copy()?;
+    let equal = copied == *unit;
+    copied.singleton = !unit.singleton;
+    Ok(equal && copied != *unit)
 }
 
 #[test]
 fn a_copied_unit_is_equal(rt: HostRuntime) -> Result<(), Fail> {
     let unit = unit(rt.alloc())?;
-    let mut copied = unit.copy()?;
-    assert!(rt; copied == unit);
-    copied.singleton = false;
-    assert!(rt; copied != unit);
+    assert!(rt; copies(&unit)?);
     Ok(())
 }
 
@@ -228,11 +260,26 @@ fn names_with_other_versions_differ(rt: HostRuntime) -> Result<(), Fail> {
     Ok(())
 }
 
+/// Whether a requirement on this capability in this range is one that the unit answers.
+fn is_answered(
+    alloc: Global,
+    unit: &Unit,
+    namespace: &str,
+    name: &str,
+    range: &str,
+) -> Result<bool, Fail> {
+    let mut required = required(alloc)?;
+    required.namespace = text(alloc, namespace)?;
+    required.name = text(alloc, name)?;
+    required.range = Range::parse(alloc, range.as_bytes())?;
+    Ok(matches(&required, unit))
+}
+
 #[test]
 fn a_requirement_is_answered_by_namespace_name_and_version(rt: HostRuntime) -> Result<(), Fail> {
     let alloc = rt.alloc();
     let unit = unit(alloc)?;
-    let cases = [
+    for (namespace, name, range, wanted) in [
         ("n", "cap", "1", true),
         ("n", "cap", "[1,2)", true),
         ("n", "cap", "1.0.0.r", false),
@@ -241,32 +288,28 @@ fn a_requirement_is_answered_by_namespace_name_and_version(rt: HostRuntime) -> R
         ("n", "other", "1", false),
         ("m", "cap", "1", false),
         ("cap", "n", "1", false),
-    ];
-    for (namespace, name, range, wanted) in cases {
-        let mut required = required(alloc)?;
-        required.namespace = text(alloc, namespace)?;
-        required.name = text(alloc, name)?;
-        required.range = Range::parse(alloc, range.as_bytes())?;
-        assert_eq!(rt;
-            matches(&required, &unit),
-            wanted,
-            "{namespace} {name} {range}"
-        );
+    ] {
+        let answered = is_answered(alloc, &unit, namespace, name, range)?;
+        assert_eq!(rt; answered, wanted, "{namespace} {name} {range}");
     }
     Ok(())
+}
+
+/// Whether the unit applies where the system has this name.
+fn applies_on(alloc: Global, unit: &Unit, system: &str) -> Result<bool, Fail> {
+    let mut env = Env::new(alloc);
+    env.set(b"osgi.os", &text(alloc, system)?)?;
+    Ok(applies(unit, &env))
 }
 
 #[test]
 fn a_unit_applies_where_its_filter_is_true(rt: HostRuntime) -> Result<(), Fail> {
     let alloc = rt.alloc();
-    let mut unit = unit(alloc)?;
-    let mut env = Env::new(alloc);
-    assert!(rt; !applies(&unit, &env));
-    env.set(b"osgi.os", &text(alloc, "linux")?)?;
-    assert!(rt; applies(&unit, &env));
-    env.set(b"osgi.os", &text(alloc, "win32")?)?;
-    assert!(rt; !applies(&unit, &env));
-    unit.filter = None;
-    assert!(rt; applies(&unit, &env));
+    let unit = unit(alloc)?;
+    let bare = bare_unit(alloc)?;
+    for (system, wanted) in [("", false), ("linux", true), ("win32", false)] {
+        assert_eq!(rt; applies_on(alloc, &unit, system)?, wanted, "on {system}");
+        assert!(rt; applies_on(alloc, &bare, system)?, "on {system}");
+    }
     Ok(())
 }

@@ -16,8 +16,7 @@ const GREATEST: u32 = 999_999;
 /// The owner of the parts of the host. The owner of those of unit N is N + 1.
 pub(crate) const HOST: u32 = 0;
 
-/// Where a part stands: with which owner, and in which row of which list. A part of no row has the list 0 and the
-/// row 0.
+/// Where a part stands: with which owner, and in which row of which list. A part of no row has 0 for both.
 #[derive(Clone, Copy, Debug, PartialEq, Eq, PartialOrd, Ord)]
 pub(crate) struct Place {
     pub(crate) owner: u32,

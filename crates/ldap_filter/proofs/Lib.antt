@@ -2,6 +2,13 @@ pub mod EnvChanges
 pub mod EnvKeys
 pub mod EnvLemmas
 pub mod EnvPlaces
+pub mod FilterPlaces
+pub mod FilterProgress
+pub mod FilterReads
+pub mod FilterRuns
+pub mod FilterScans
+pub mod FilterTests
+pub mod FilterValues
 pub mod Folds
 pub mod PieceLemmas
 pub mod ReadsBack

@@ -92,6 +92,9 @@ pub record DenotesFilter (text : List ℕ) (f : Filter) : Type 0 where
   pub denotes : Denotes text f
   pub shallow : nesting f ≤ 64
 
+abbrev pub IsFilterText : List ℕ → Type 0
+IsFilterText text = (f : Filter) × DenotesFilter text f
+
 -- The filter has a text.
 abbrev pub IsFilter : Filter → Type 0
 IsFilter f = (text : List ℕ) × DenotesFilter text f

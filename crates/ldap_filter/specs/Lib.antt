@@ -4,7 +4,12 @@ pub mod EnvFault
 pub mod EnvPairs
 pub mod EnvPlace
 pub mod EnvSeen
+pub mod FilterFaults
+pub mod FilterReading
+pub mod FilterScan
+pub mod FilterSteps
 pub mod FilterText
+pub mod FilterValue
 pub mod Pieces
 pub mod Same
 pub mod SameLaws

@@ -37,7 +37,7 @@ at_most m n h = grind (arith, nat_tests)
 at_most_true : (m n : ℕ) → m ≤ n → nat_le m n ≡ true
 at_most_true m n h = grind (arith, nat_tests)
 
-is_id-sound : (id : List ℕ) → is_id id ≡ true → IsUnitId id
+pub is_id-sound : (id : List ℕ) → is_id id ≡ true → IsUnitId id
 unfolding is_id
 is_id-sound id h =
     let front = and_left _ _ h in

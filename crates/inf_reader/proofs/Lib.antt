@@ -1,9 +1,14 @@
 pub mod EntryLemmas
+pub mod FormLemmas
 pub mod HostLemmas
 pub mod IdLemmas
+pub mod NameLemmas
 pub mod PlaceLemmas
+pub mod RangeReadings
+pub mod ReadingLemmas
 pub mod ReplacedLemmas
 pub mod RowLemmas
 pub mod Steps
 pub mod TruthLemmas
 pub mod UnitLemmas
+pub mod VersionReadings

@@ -1,7 +1,7 @@
 -- Facts on places.
 use Rattle.std.proofs.Common.{◌≡◌, ◌⊎◌, ℕ, zero, suc, ◌+◌, ◌<◌, ◌==◌, ◌&&◌, nat_lt, Bool, true, false, not, List, [], ◌∷◌, map, filter, cond, inl, inr, refl, sym, ap, ◌∙◌, arith}
 use Rattle.std.proofs.lemmas.Bool.Decides.{nat_tests}
-use Rattle.std.specs.Ordering.{nat_cmp, ordering_then, is_le}
+use Rattle.std.specs.Ordering.{nat_cmp, ordering_then, is_le, is_eq}
 use Rattle.std.specs.Cmp.{nat_cmp_is}
 use Rattle.std.specs.declared.cmp.Ordering.{Ordering}
 use Rattle.std.specs.declared.cmp.Ordering.TheVariants.{Less, Equal, Greater}
@@ -34,6 +34,16 @@ from_zero : (n : ℕ) → is_le (nat_cmp 0 n) ≡ true
 from_zero n = elim (ordered 0 n) [
   | inl h ↦ ap is_le (less 0 n h)
   | inr r ↦ elim r [ inl h ↦ ap is_le (equal 0 n h) | inr h ↦ absurd (omega arith) ]
+]
+
+-- Numbers are tied exactly where they are one.
+pub tied_numbers : (x y : ℕ) → is_eq (nat_cmp x y) ≡ (x == y)
+tied_numbers x y = elim (ordered x y) [
+  | inl h ↦ let other : (x == y) ≡ false = grind (arith, nat_tests) in ap is_eq (less x y h) ∙ sym other
+  | inr r ↦ elim r [
+    | inl h ↦ let same : (x == y) ≡ true = grind (arith, nat_tests) in ap is_eq (equal x y h) ∙ sym same
+    | inr h ↦ let other : (x == y) ≡ false = grind (arith, nat_tests) in ap is_eq (greater x y h) ∙ sym other
+  ]
 ]
 
 abbrev place : ℕ → ℕ → ℕ → Place

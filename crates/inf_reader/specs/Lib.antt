@@ -3,8 +3,10 @@ pub mod Cut
 pub mod Entries
 pub mod Gives
 pub mod Host
+pub mod InForm
 pub mod KeyText
 pub mod Meaning
+pub mod NameKeys
 pub mod Number
 pub mod Parts
 pub mod Placing

@@ -9,6 +9,7 @@ mod fields;
 mod host;
 mod key_text;
 mod meaning;
+mod names;
 mod number;
 mod parts;
 mod replaced;
@@ -19,6 +20,7 @@ mod units;
 mod value;
 
 pub use fault::InfRefusal;
+pub use names::NameSet;
 pub use units::units_of;
 
 #[cfg(test)]

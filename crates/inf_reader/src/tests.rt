@@ -1,11 +1,11 @@
 //! Whole descriptions, with the units or the refusals that were worked out by hand from the rules of the format.
 
-use crate::{InfRefusal, units_of};
+use crate::{InfRefusal, NameSet, units_of};
 use osgi_version::{List, NoMemory, Range, Text, Version, push_field, push_number};
 use props_reader::read;
 use std::alloc::Global;
 use std::test::Fail;
-use unit_model::{Phase, Unit};
+use unit_model::{Phase, Unit, UnitName};
 
 fn push_word(line: &mut Vec<u8>, word: &str) -> Result<(), NoMemory> {
     line.extend_from_slice(word.as_bytes())?;
@@ -399,5 +399,31 @@ fn takes_so_many_requirements(rt: HostRuntime) -> Result<(), Fail> {
     let more = requiring(rt.alloc(), 1025)?;
     let refused = outcome(rt.alloc(), "f", &more)?;
     assert_eq!(rt; refused.as_slice(), b"too many a 1.0.0".as_slice());
+    Ok(())
+}
+
+fn name_of(alloc: Global, id: &str, version: &str) -> Result<UnitName, Fail> {
+    Ok(UnitName {
+        id: Text::from_str(alloc, id)?,
+        version: Version::parse(alloc, version.as_bytes())?,
+    })
+}
+
+#[test]
+fn knows_a_name_again(rt: HostRuntime) -> Result<(), Fail> {
+    let alloc = rt.alloc();
+    let mut names = NameSet::new(alloc);
+    let tried = [
+        ("a", "1", true),
+        ("a", "1.0.0", false),
+        ("a", "1.0.0.x", true),
+        ("b", "1", true),
+        ("a", "1.0.1", true),
+        ("a", "1.0.0.x", false),
+    ];
+    for (id, version, new) in tried {
+        let name = name_of(alloc, id, version)?;
+        assert_eq!(rt; names.add(alloc, &name)?, new, "at {id} {version}");
+    }
     Ok(())
 }

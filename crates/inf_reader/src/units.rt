@@ -1,17 +1,18 @@
 //! The units of a p2.inf.
 
 ghost use Rattle.std.specs.Prelude.{◌≡◌, []};
-ghost use Rattle.std.specs.List.{list_any};
 ghost use Rattle.std.specs.Option.{option_map};
 ghost use Rattle.inf_reader.specs.Gives.{Gives};
+ghost use Rattle.inf_reader.specs.InForm.{InForm};
 ghost use Rattle.inf_reader.specs.Readings.{Readings, ReadsAll};
 ghost use Rattle.inf_reader.specs.TableAt.{at};
-ghost use Rattle.inf_reader.specs.UnitsOf.{same_name, has_name, unit_of, units_from, units_of};
+ghost use Rattle.inf_reader.specs.UnitsOf.{unit_of, units_from, units_of};
 
 use crate::entries::entries_of;
 use crate::fault::InfRefusal;
 use crate::fields::part_truth_or;
 use crate::host::host_of;
+use crate::names::NameSet;
 use crate::rows::{artifacts_of, properties_of, provided_of, required_of};
 use crate::table::{Table, table_of};
 use crate::unit_parts::{name_of, phases_of, touchpoint_of, update_of};
@@ -53,18 +54,6 @@ fn unit_of(
     })
 }
 
-fn same_name(name: &UnitName, other: &UnitName) -> bool
-    ensures { result ≡ same_name name.now other.now }
-{
-    name == other
-}
-
-fn has_name(units: &[Unit], name: &UnitName) -> bool
-    ensures { result ≡ has_name units.now name.now }
-{
-    units.iter().any(|unit| same_name(&unit.name, name))
-}
-
 /// The units of these owners, each with a name of its own.
 fn units_from(
     alloc: Global,
@@ -75,9 +64,11 @@ fn units_from(
     ensures { Gives (λ units. units) result (units_from (option_map (λ h. h.now) host.entry) (at table.now) table.now.places.keys [] owners.now) }
 {
     let mut units = List::new(alloc);
+    let mut names = NameSet::new(alloc);
     for owner in owners {
         let unit = unit_of(alloc, host, table, *owner)?;
-        if has_name(units.items(), &unit.name) {
+        let new = names.add(alloc, &unit.name)?;
+        if !new {
             return Err(InfRefusal::Duplicate(unit.name));
         }
         units.push(unit)?;
@@ -87,9 +78,10 @@ fn units_from(
 
 /// The units that the pairs describe: first the host, where the folder's name gives one and some pair speaks of it,
 /// and then the numbered units, rising. A refusal is the first: first of the pairs in their order, and then unit by
-/// unit.
+/// unit. Takes time in line with the pairs, but for the look-ups of keys and names, which are logarithmic.
 pub fn units_of(alloc: Global, folder: &[u8], pairs: &Pairs) -> Result<List<Unit>, InfRefusal>
-    ensures { (read : Readings) → ReadsAll read → Gives (λ units. units) result (units_of read folder.now pairs.now) }
+    ensures exact { (read : Readings) → ReadsAll read → Gives (λ units. units) result (units_of read folder.now pairs.now) }
+    ensures form { InForm result }
 {
     let host = host_of(alloc, folder)?;
     let entries = entries_of(alloc, host.as_ref(), pairs)?;

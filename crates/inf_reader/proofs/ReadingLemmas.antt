@@ -1,0 +1,17 @@
+-- There is one way to read versions and ranges.
+use Rattle.std.proofs.Common.{◌≡◌}
+use Rattle.inf_reader.specs.Readings.{Readings, ReadsAll}
+use Rattle.inf_reader.proofs.VersionReadings.{version_read, version_once}
+use Rattle.inf_reader.proofs.RangeReadings.{range_read, range_once}
+
+abbrev pub readings : Readings
+readings = record { version = λ text. (version_read text).0; range = λ text. (range_read text).0 }
+
+pub readings_all : ReadsAll readings
+readings_all = record { version = λ text. (version_read text).1; range = λ text. (range_read text).1 }
+
+pub readings_once : (a b : Readings) → ReadsAll a → ReadsAll b → a ≡ b
+readings_once a b one other = λ i. record {
+  version = λ text. version_once text (a.version text) (b.version text) (one.version text) (other.version text) i;
+  range = λ text. range_once text (a.range text) (b.range text) (one.range text) (other.range text) i;
+}

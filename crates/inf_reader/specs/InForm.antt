@@ -1,0 +1,34 @@
+-- What the units of every p2.inf keep to: what is to be written of them has a text.
+use Rattle.std.specs.Prelude.{List, All, Result, Ok, Err, ⊤}
+use Rattle.osgi_version.specs.VersionText.{IsVersion}
+use Rattle.osgi_version.specs.RangeText.{IsRange}
+use Rattle.unit_model.specs.UnitId.{IsUnitId}
+use Rattle.unit_model.specs.declared.unit.Unit.{Unit}
+use Rattle.unit_model.specs.declared.provided.Provided.{Provided}
+use Rattle.inf_reader.specs.declared.fault.InfRefusal.{InfRefusal}
+use Rattle.inf_reader.specs.declared.fault.InfRefusal.TheVariants.{UnknownKey, LeftOutKey, NoHost, MissingId, BadValue, Duplicate, TooManyRequirements, NoMemory}
+
+abbrev pub HasVersion : Provided → Type 0
+HasVersion provided = IsVersion provided.version
+
+-- The id is one, and each version and range has a text.
+pub record IsUnitInForm (unit : Unit) : Type 0 where
+  pub id : IsUnitId unit.name.id
+  pub version : IsVersion unit.name.version
+  pub range : IsRange unit.update.range
+  pub provided : All HasVersion unit.provided
+
+-- The version of a name that stands twice has a text.
+abbrev pub IsRefusalInForm : InfRefusal → Type 0
+IsRefusalInForm (Duplicate name) = IsVersion name.version
+IsRefusalInForm (UnknownKey key) = ⊤
+IsRefusalInForm (LeftOutKey key) = ⊤
+IsRefusalInForm (NoHost key) = ⊤
+IsRefusalInForm (MissingId number) = ⊤
+IsRefusalInForm (BadValue key) = ⊤
+IsRefusalInForm (TooManyRequirements name) = ⊤
+IsRefusalInForm NoMemory = ⊤
+
+abbrev pub InForm : Result (List Unit) InfRefusal → Type 0
+InForm (Ok units) = All IsUnitInForm units
+InForm (Err refusal) = IsRefusalInForm refusal

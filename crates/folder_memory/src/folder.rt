@@ -4,7 +4,8 @@ ghost use Rattle.folder_memory.specs.State.{state_of, LeftSince};
 
 use crate::history::History;
 use crate::image::{ImageFault, first_untouched};
-use crate::nodes::{copied, has_below, is_directory, kids_of};
+use crate::nodes::{copied, is_directory};
+use crate::places::{has_below, kids_of};
 use crate::schedule::Schedule;
 use folder_core::{Failed, Folder, FolderError, Name, Node, Path, Touch};
 use osgi_version::List;
@@ -12,8 +13,8 @@ use std::alloc::Global;
 
 /// A folder in memory. It keeps a record of its calls, so that it tells every moment.
 ///
-/// A look-up costs the logarithm of the number of its paths, and a `set` as much. `kids`, `can_set` and `image` go through
-/// all of them.
+/// A look-up costs the logarithm of the number of its paths, and so do `can_set` and a `set`. `kids` also goes through what
+/// stands below its path. `image` goes through the whole record, and for each choice through the touched paths.
 #[derive(Debug, Drop)]
 pub struct MemoryFolder {
     history: History,
@@ -88,7 +89,7 @@ impl MemoryFolder {
         let Some((_, parent)) = path.names().items().split_last() else {
             return false;
         };
-        self.history.has_directory(parent) && !has_below(&self.history.nodes, path)
+        self.history.has_directory(parent, path) && !has_below(&self.history.nodes, path)
     }
 
     /// The folder as a crash may leave it: with these nodes at touched paths, and with what was synced at the others. Of
@@ -110,7 +111,8 @@ impl MemoryFolder {
         }
         let mut history = self.history.synced(alloc)?;
         history.set_all(choice)?;
-        if !history.is_formed() {
+        let is_formed = history.is_formed(alloc)?;
+        if !is_formed {
             return Err(ImageFault::NotWellFormed);
         }
         history.sync();

@@ -13,9 +13,5 @@ pub none_found : (path place : List (List ℕ)) (found : Option (Bor (List ℕ))
 none_found path place None holds none = holds
 none_found path place (Some name) holds none = absurd (let no : ⊥ = cc in no)
 
-pub no_step_given : (path place : List (List ℕ)) (found : Option (Bor (List ℕ))) → MatchOption found (¬ (IsBelow path place)) (λ name. IsFirstBelow path name.now place) → found ≡ None → (name : List ℕ) → ¬ (IsFirstBelow path name place)
-no_step_given path place None holds is name first = holds (name, first.0, first.1)
-no_step_given path place (Some found) holds is name first = let no : ⊥ = cc in no
-
 pub same_step : (path place : List (List ℕ)) (name other : List ℕ) → IsFirstBelow path name place → IsFirstBelow path other place → other ≡ name
 same_step path place name other first second = let same = append_cancel_left path (name ∷ first.0) (other ∷ second.0) (sym first.1 ∙ second.1) in cc

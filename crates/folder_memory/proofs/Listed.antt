@@ -1,4 +1,4 @@
--- The places of the nodes of a folder, and those that a loop over them has seen.
+-- The places in a map, and those that a loop over them has seen.
 use Rattle.std.specs.Prelude.{map}
 use Rattle.std.proofs.Common.{◌≡◌, inl, inr, ℕ, zero, suc, Option, Some, None, Bool, List, [], ◌∷◌, ◌++◌, Bor, Ordering, IsTrue, refl, sym, ◌∙◌, ap, subst, arith}
 use Rattle.std.specs.List.{Contains}

@@ -23,7 +23,7 @@ reversed_not_greater o Greater is other = λ e. let bad : ⊥ = cc in bad
 pub before_not_after : (a b : Place) → IsPathBefore a b → path_cmp a b ≢ Greater
 before_not_after a b before = less_not_greater (path_cmp a b) before
 
--- what isn't before a path isn't above it in the order
+-- a place isn't behind one that isn't before it
 pub not_before : (a b : Place) → ¬ (IsPathBefore a b) → path_cmp b a ≢ Greater
 not_before a b none = reversed_not_greater (path_cmp b a) (path_cmp a b) (path_cmp_total.antisymm b a) none
 

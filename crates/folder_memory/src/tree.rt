@@ -41,8 +41,7 @@ impl Twin for PutFault {
     }
 }
 
-/// A tree of files in memory. A look-up costs the logarithm of the number of its files, and so does a `put`. `kids` also goes
-/// through what stands below its path.
+/// A tree of files in memory. A look-up costs the logarithm of the number of its files, and so does a `put`.
 #[derive(Debug, Drop)]
 pub struct MemoryTree {
     files: BTreeMap<Path, Blob>,
@@ -66,7 +65,7 @@ impl MemoryTree {
         }
     }
 
-    /// These calls fail, counted from 1, from now on. They take the place of earlier ones.
+    /// These calls fail, counted from 1, from now on. They take the place of earlier ones. Each call goes through this list.
     pub fn fail_at(&mut self, calls: List<u64>)
         ensures files { told_by self.new ≡ told_by self.old }
         ensures schedule { schedule_of self.new
@@ -132,6 +131,7 @@ impl Tree for MemoryTree {
 
     ghost formed = { λ t. AreFiles-had (files_of t.files) t.formed };
 
+    /// Goes through what stands below the path.
     fn kids(&mut self, alloc: Global, path: &Path) -> Result<List<Name>, TreeError>
         ensures kids { IfOk result (AreThose (λ name. HasBelow (told_by self.old) (path.now ++ name ∷ []))) }
         ensures rising { IfOk result AreRising }

@@ -4,7 +4,7 @@ use Rattle.std.specs.List.{slice_get}
 use Rattle.std.specs.Option.{MatchOption, option_copied}
 use Rattle.std.proofs.lemmas.List.{append_cancel_left}
 use Rattle.folder_core.specs.Path.{IsBelow}
-use Rattle.folder_memory.specs.Below.{IsFirstBelow, IsNoKid}
+use Rattle.folder_memory.specs.Below.{IsFirstBelow}
 
 pub apart_also : (path place front names : List (List ℕ)) → names ≡ place → front ≡ path → ((rest : List (List ℕ)) → names ≢ front ++ rest) → (rest : List (List ℕ)) → place ≢ path ++ rest
 apart_also path place front names same_place same_path apart rest e = apart rest (same_place ∙ e ∙ ap (λ (l : List (List ℕ)). l ++ rest) (sym same_path))
@@ -15,22 +15,9 @@ behind_also path place front names rest same_place same_path e = sym same_place 
 pub not_below : (path place : List (List ℕ)) → ((rest : List (List ℕ)) → place ≢ path ++ rest) → ¬ (IsBelow path place)
 not_below path place apart below = apart (below.0 ∷ below.1) below.2
 
-pub no_kid : (path place : List (List ℕ)) → ((rest : List (List ℕ)) → place ≢ path ++ rest) → IsNoKid path place
-no_kid path place apart name = apart (name ∷ [])
-
 -- the first of the names behind the path
 pub first_below : (path rest place : List (List ℕ)) (first : Option (Bor (List ℕ))) → place ≡ path ++ rest → option_copied first ≡ slice_get rest 0 → MatchOption first (¬ (IsBelow path place)) (λ name. IsFirstBelow path name.now place)
 first_below path [] place None is at = λ below. let same = append_cancel_left path [] (below.0 ∷ below.1) (sym is ∙ below.2) in let no : ⊥ = cc in no
 first_below path [] place (Some name) is at = absurd (let no : ⊥ = cc in no)
 first_below path (x ∷ rest) place None is at = absurd (let no : ⊥ = cc in no)
 first_below path (x ∷ rest) place (Some name) is at = let same : x ≡ name.now = cc in (rest, is ∙ ap (λ (l : List ℕ). path ++ l ∷ rest) same)
-
--- the only one
-pub only_below : (path rest place : List (List ℕ)) (first : Option (Bor (List ℕ))) → place ≡ path ++ rest → length rest ≡ 1 → option_copied first ≡ slice_get rest 0 → MatchOption first (IsNoKid path place) (λ name. place ≡ path ++ name.now ∷ [])
-only_below path [] place first is one at = absurd (omega arith)
-only_below path (x ∷ []) place None is one at = absurd (let no : ⊥ = cc in no)
-only_below path (x ∷ []) place (Some name) is one at = let same : x ≡ name.now = cc in is ∙ ap (λ (l : List ℕ). path ++ l ∷ []) same
-only_below path (x ∷ y ∷ rest) place first is one at = absurd (omega arith)
-
-pub not_only : (path rest place : List (List ℕ)) → place ≡ path ++ rest → length rest ≢ 1 → IsNoKid path place
-not_only path rest place is more name e = more (ap length (append_cancel_left path rest (name ∷ []) (sym is ∙ e)))

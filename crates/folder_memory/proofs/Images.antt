@@ -27,7 +27,7 @@ use Rattle.folder_memory.specs.State.{first_state, after_event, state_of}
 use Rattle.folder_memory.specs.declared.history.Event.{Event}
 use Rattle.folder_memory.specs.declared.history.Event.TheVariants.{Set, Sync}
 use Rattle.folder_memory.proofs.Kids.{AnyOf, AnyOf-cases, take_next}
-use Rattle.folder_memory.proofs.Places.{any_seen, listed_there}
+use Rattle.folder_memory.proofs.Listed.{any_seen, listed_there}
 use Rattle.folder_memory.proofs.Standing.{at_some, now_set}
 use Rattle.folder_memory.proofs.States.{contains_cases}
 

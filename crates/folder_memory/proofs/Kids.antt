@@ -74,16 +74,3 @@ module _ {T : Type 0} (Gives : T → List ℕ → Type 0) where
     λ is. AnyOf-earlier (λ t. Gives t name) done t ((so_far name).0 is),
     λ any. ⊎_elim (λ e. (so_far name).1 e) (λ e. absurd (none name e)) (AnyOf-cases (λ t. Gives t name) done t any),
   )
-
-module _ {T : Type 0} (Gives : T → List ℕ → Type 0) (xs : List T) (i : ℕ) (t : T) (below : i < length xs) (at : t ≡ get_or xs i t) where
-  -- a turn of the loop that inserts the name that its element gives
-  pub gathers_insert : (name key : List ℕ) (old new has : List ℕ → Bool) → Gives t name → ((other : List ℕ) → Gives t other → other ≡ name) → key ≡ name → ((q : List ℕ) → new q ≡ cond (is_at (slice_cmp nat_cmp key) q) true (old q)) → ((q : List ℕ) → has q ≡ new q) → Gathers Gives old (take i xs) → Gathers Gives has (take (i + 1) xs)
-  gathers_insert name key old new has gives only same inserts is so_far =
-      subst (Gathers Gives has) (sym (take_next xs i t below at))
-      (Gathers-push Gives old has (take i xs) t name gives only (λ q. is q ∙ inserts q ∙ ap (λ k. cond (is_at (slice_cmp nat_cmp k) q) true (old q)) same) so_far)
-
-  -- a turn that inserts none
-  pub gathers_pass : (old has : List ℕ → Bool) → ((name : List ℕ) → ¬ (Gives t name)) → ((q : List ℕ) → has q ≡ old q) → Gathers Gives old (take i xs) → Gathers Gives has (take (i + 1) xs)
-  gathers_pass old has none is so_far =
-      subst (Gathers Gives has) (sym (take_next xs i t below at))
-      (Gathers-skip Gives has (take i xs) t none (λ name. (λ h. (so_far name).0 (sym (is name) ∙ h), λ any. is name ∙ (so_far name).1 any)))

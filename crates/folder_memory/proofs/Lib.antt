@@ -1,8 +1,10 @@
 pub mod Below
+pub mod Files
 pub mod Found
 pub mod Images
 pub mod Kids
-pub mod Made
-pub mod Places
+pub mod Listed
+pub mod Order
+pub mod Parts
 pub mod Standing
 pub mod States

@@ -1,13 +1,15 @@
 -- What stands in a folder in memory, and what a crash leaves of it.
-use Rattle.std.proofs.Common.{◌≡◌, ◌≢◌, ◌⊎◌, ◌↔◌, inl, inr, ℕ, Bool, true, false, not, IsTrue, List, [], ◌∷◌, ◌++◌, Option, Some, None, refl, sym, ◌∙◌, ap, subst, arith}
+use Rattle.std.proofs.Common.{◌≡◌, ◌≢◌, ◌⊎◌, ◌↔◌, inl, inr, ℕ, Bool, true, false, not, IsTrue, List, [], ◌∷◌, ◌++◌, Option, Some, None, refl, sym, ◌∙◌, ap, subst, arith, append_assoc}
+use Rattle.std.specs.declared.cmp.Ordering.TheVariants.{Greater}
 use Rattle.std.specs.List.{Contains}
+use Rattle.std.proofs.lemmas.List.{append-nil}
 use Rattle.std.specs.Option.{IfSome, IsSome}
 use Rattle.std.specs.BTreeMap.{BTreeMap, get}
 use Rattle.std.proofs.Math.Logic.{∥∥₁_map}
 use Rattle.folder_core.specs.Folder.{Map, Told, IsFormed, CanSet, IsKid, SameBut, set_at}
 use Rattle.folder_core.specs.Crash.{IsImage, Touches, Narrows, Elapses}
 use Rattle.folder_core.specs.Name.{AreThose}
-use Rattle.folder_core.specs.Path.{IsPath}
+use Rattle.folder_core.specs.Path.{IsBelow, IsPath}
 use Rattle.folder_core.specs.PathOrder.{path_cmp}
 use Rattle.folder_core.specs.Node.{IsNode, IsSmallAt}
 use Rattle.folder_core.specs.declared.node.Node.{Node}
@@ -17,11 +19,13 @@ use Rattle.folder_core.proofs.Paths.{IsPath-nil}
 use Rattle.std.proofs.lemmas.Bool.{false≢true}
 use Rattle.folder_core.proofs.Maps.{IsFormed-set_at, changed_here, changed_other, parent-push, push_some, same_path}
 use Rattle.folder_memory.specs.Moments.{contains_front, contains_middle, image_now, state_of-push}
-use Rattle.folder_memory.specs.Nodes.{HasBelow, map_of}
+use Rattle.folder_memory.specs.Nodes.{ShowsDirectory, map_of}
+use Rattle.folder_memory.specs.Places.{HasBelow, HasFrom, IsLastBefore, NothingBefore}
 use Rattle.folder_memory.specs.Sets.{node_had}
 use Rattle.folder_memory.specs.State.{only_root, state_of, after_event, LeftSince, MaySync}
 use Rattle.folder_memory.specs.declared.history.Event.{Event}
 use Rattle.folder_memory.specs.declared.history.Event.TheVariants.{Set, Sync}
+use Rattle.folder_memory.proofs.Order.{before_not_after, below_is_after, between, not_before}
 use Rattle.folder_memory.proofs.States.{Stands, contains_cases, elapses_none, elapses_push, touched_set}
 
 abbrev Place : Type 0
@@ -131,18 +135,64 @@ formed_first = record {
     small [] node is = subst (IsSmallAt []) (let same : Dir ≡ node = cc in same) tt
     small (name ∷ path) node is = absurd (let no : ⊥ = cc in no)
 
+-- ---- what stands above another
+
+append_some : (front : Place) (name : List ℕ) (rest : Place) → front ++ name ∷ rest ≢ []
+append_some [] name rest e = cc
+append_some (x ∷ front) name rest e = cc
+
+above_kid : (m : Map) → IsFormed m → (path : Place) (name : List ℕ) (node : Node) → m (path ++ name ∷ []) ≡ Some node → m path ≡ Some Dir
+above_kid m formed path name node is =
+    sym (ap m (parent-push (path ++ name ∷ []) path name refl)) ∙ formed.parents (path ++ name ∷ []) node (push_some (path ++ name ∷ []) path name refl) is
+
+pub directory_above : (m : Map) → IsFormed m → (path : Place) (name : List ℕ) (rest : Place) (node : Node) → m (path ++ name ∷ rest) ≡ Some node → m path ≡ Some Dir
+directory_above m formed path name [] node is = above_kid m formed path name node is
+directory_above m formed path name (next ∷ rest) node is =
+    above_kid m formed path name Dir (directory_above m formed (path ++ name ∷ []) next rest node (ap m (append_assoc path (name ∷ []) (next ∷ rest)) ∙ is))
+
+some_is : (node : Option Node) → IsSome node → (n : Node) × (node ≡ Some n)
+some_is None some = absurd (let no : ⊥ = cc in no)
+some_is (Some n) some = (n, refl)
+
+is_some_of : (node : Option Node) (n : Node) → node ≡ Some n → IsSome node
+is_some_of None n is = let no : ⊥ = cc in absurd no
+is_some_of (Some m) n is = refl
+
+module _ (events : List Event) (nodes : Nodes) (stands : ∥ Stands events nodes ∥₁) (formed : IsFormed (state_of events).now)
+    (path front : Place) (below : IsBelow front path) (some : front ≢ []) where
+  at_front : (state_of events).now front ≡ get path_cmp nodes front
+  at_front = stands_at events nodes stands front ∙ at_some Dir nodes front some
+
+  stands_front : (state_of events).now front ≡ Some Dir → IsSome (get path_cmp nodes front)
+  stands_front is = is_some_of (get path_cmp nodes front) Dir (sym at_front ∙ is)
+
+  pub nothing_shows : NothingBefore nodes path → ¬ ((state_of events).now front ≡ Some Dir)
+  nothing_shows none is = none front (below_is_after front path below) (stands_front is)
+
+  pub shown : (place : Place) (node : Node) → IsLastBefore nodes path place node → ShowsDirectory front place node → (state_of events).now front ≡ Some Dir
+  shown place node last (rest, is, here) = at rest is here
+    where
+      at : (rest : Place) → place ≡ front ++ rest → (rest ≡ [] → node ≡ Dir) → (state_of events).now front ≡ Some Dir
+      at [] is here = at_front ∙ ap (λ p. get path_cmp nodes p) (sym (is ∙ append-nil front)) ∙ last.stands ∙ ap Some (here refl)
+      at (name ∷ rest) is here =
+          let there = stands_at events nodes stands (front ++ name ∷ rest) ∙ at_some Dir nodes (front ++ name ∷ rest) (append_some front name rest) in
+          directory_above (state_of events).now formed front name rest node (there ∙ ap (λ p. get path_cmp nodes p) (sym is) ∙ last.stands)
+
+  pub must_show : (place : Place) (node : Node) → IsLastBefore nodes path place node → (state_of events).now front ≡ Some Dir → ShowsDirectory front place node
+  must_show place node last dir =
+      let up_to = subst (λ p. path_cmp place p ≢ Greater) below.2 (before_not_after place path last.before) in
+      let from = not_before place front (last.last front (below_is_after front path below) (stands_front dir)) in
+      let behind = between front place (below.0 ∷ below.1) from up_to in
+      (behind.0, behind.1, λ none. at (behind.1 ∙ ap (λ (l : Place). front ++ l) none ∙ append-nil front))
+    where
+      at : place ≡ front → node ≡ Dir
+      at same = let both : Some node ≡ Some Dir = sym last.stands ∙ ap (λ p. get path_cmp nodes p) same ∙ sym at_front ∙ dir in cc
+
 -- ---- whether a node may be put
 
 module _ (events : List Event) (nodes : Nodes) (stands : ∥ Stands events nodes ∥₁) (path : Place) where
-  behind_some : (name : List ℕ) (rest : Place) → path ++ name ∷ rest ≢ []
-  behind_some name rest is = some path is
-    where
-      some : (front : Place) → front ++ name ∷ rest ≢ []
-      some [] e = cc
-      some (x ∷ front) e = cc
-
   there : (name : List ℕ) (rest : Place) → (state_of events).now (path ++ name ∷ rest) ≡ get path_cmp nodes (path ++ name ∷ rest)
-  there name rest = stands_at events nodes stands (path ++ name ∷ rest) ∙ at_some Dir nodes (path ++ name ∷ rest) (behind_some name rest)
+  there name rest = stands_at events nodes stands (path ++ name ∷ rest) ∙ at_some Dir nodes (path ++ name ∷ rest) (append_some path name rest)
 
   nothing_below : ¬ (HasBelow nodes path) → (name : List ℕ) (rest : Place) → (state_of events).now (path ++ name ∷ rest) ≡ None
   nothing_below none name rest = there name rest ∙ at (get path_cmp nodes (path ++ name ∷ rest)) refl
@@ -174,11 +224,19 @@ module _ (events : List Event) (nodes : Nodes) (stands : ∥ Stands events nodes
     λ can. refl,
   )
 
-  pub kids_told : (names : List (List ℕ)) → (state_of events).now path ≡ Some Dir → AreThose (λ name. IsSome (get path_cmp nodes (path ++ name ∷ []))) names → AreThose (IsKid (state_of events).now path) names
-  kids_told names dir those name = (
-    λ had. record { directory = dir; stands = subst (λ (v : Option Node). IsSome v) (sym (there name [])) ((those name).0 had) },
-    λ kid. (those name).1 (subst (λ (v : Option Node). IsSome v) (there name []) kid.stands),
+  pub kids_told : IsFormed (state_of events).now → (names : List (List ℕ)) → (state_of events).now path ≡ Some Dir → AreThose (λ name. HasFrom nodes (path ++ name ∷ [])) names → AreThose (IsKid (state_of events).now path) names
+  kids_told formed names dir those name = (
+    λ had. let from = (those name).0 had in record { directory = dir; stands = at from.0 from.1 },
+    λ kid. (those name).1 ([], subst (λ (v : Option Node). IsSome v) (there name [] ∙ ap (λ p. get path_cmp nodes p) (sym (append-nil (path ++ name ∷ [])))) kid.stands),
   )
+    where
+      at : (rest : Place) → IsSome (get path_cmp nodes ((path ++ name ∷ []) ++ rest)) → IsSome ((state_of events).now (path ++ name ∷ []))
+      at [] some = subst (λ (v : Option Node). IsSome v) (ap (λ p. get path_cmp nodes p) (append-nil (path ++ name ∷ [])) ∙ sym (there name [])) some
+      at (next ∷ rest) some =
+          let same = append_assoc path (name ∷ []) (next ∷ rest) in
+          let found = some_is _ some in
+          let told = ap (state_of events).now same ∙ there name (next ∷ rest) ∙ ap (λ p. get path_cmp nodes p) (sym same) ∙ found.1 in
+          is_some_of _ Dir (directory_above (state_of events).now formed (path ++ name ∷ []) next rest found.0 told)
 
 -- ---- after a set that was recorded, or wasn't
 

@@ -20,7 +20,7 @@ use Rattle.folder_memory.specs.State.{state_of, LeftSince}
 use Rattle.folder_memory.specs.declared.history.Event.{Event}
 use Rattle.folder_memory.specs.declared.history.Event.TheVariants.{Set, Sync}
 use Rattle.folder_memory.specs.Moments.{moment_of, untouched_since, state_of-push}
-use Rattle.folder_memory.proofs.Places.{same_test}
+use Rattle.folder_memory.proofs.Listed.{same_test}
 
 abbrev Place : Type 0
 Place = List (List ℕ)
@@ -33,7 +33,7 @@ contains_cases (z ∷ xs) x y (suc k, below, at) = ⊎_elim (λ e. inl (suc e.0,
 
 -- ---- nodes in a map
 
-at_test : (path place : Place) → is_at (path_cmp path) place ≡ path_eqb place path
+pub at_test : (path place : Place) → is_at (path_cmp path) place ≡ path_eqb place path
 at_test path place =
     same_test path place
     ∙ both_ways (path_eqb path place) (path_eqb place path) (λ e. (path_eqb-Decides place path).1 (sym ((path_eqb-Decides path place).0 e))) (λ e. (path_eqb-Decides path place).1 (sym ((path_eqb-Decides place path).0 e)))

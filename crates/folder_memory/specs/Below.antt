@@ -1,10 +1,6 @@
 -- Places below a path.
-use Rattle.std.specs.Prelude.{◌≡◌, ◌≢◌, ℕ, List, [], ◌∷◌, ◌++◌}
+use Rattle.std.specs.Prelude.{◌≡◌, ℕ, List, ◌∷◌, ◌++◌}
 
 -- The name is the first on the way from the path to the place.
 abbrev pub IsFirstBelow : List (List ℕ) → List ℕ → List (List ℕ) → Type 0
 IsFirstBelow path name place = (rest : List (List ℕ)) × (place ≡ path ++ name ∷ rest)
-
--- The place isn't directly below the path.
-abbrev pub IsNoKid : List (List ℕ) → List (List ℕ) → Type 0
-IsNoKid path place = (name : List ℕ) → place ≢ path ++ name ∷ []

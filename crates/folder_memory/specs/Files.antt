@@ -1,10 +1,11 @@
 -- The files of a tree in memory.
-use Rattle.std.specs.Prelude.{◌≡◌, ◌≢◌, ℕ, List, [], ◌∷◌, ◌++◌, Some, None, Result, Ok, Err, fold, if◌then◌else◌}
-use Rattle.folder_core.specs.Path.{path_eqb}
+use Rattle.std.specs.Prelude.{◌≡◌, ◌≢◌, ℕ, List, [], ◌∷◌, ◌++◌, Some, None, IsSome, Result, Ok, Err, if◌then◌else◌}
+use Rattle.std.specs.BTreeMap.{BTreeMap, get}
+use Rattle.folder_core.specs.Path.{IsBelow, path_eqb}
+use Rattle.folder_core.specs.PathOrder.{path_cmp}
 use Rattle.folder_core.specs.Tree.{Files}
 use Rattle.folder_memory.specs.declared.tree.PutFault.{PutFault}
 use Rattle.folder_memory.specs.declared.tree.PutFault.TheVariants.{NotAFolder, NoMemory}
-use Rattle.folder_memory.specs.declared.tree.MemoryFile.{MemoryFile}
 
 abbrev pub no_files : Files
 no_files path = None
@@ -13,9 +14,13 @@ no_files path = None
 abbrev pub put_at : Files → List (List ℕ) → List ℕ → Files
 put_at files path bytes place = if path_eqb place path then Some bytes else files place
 
--- the files where each was put in turn
-abbrev pub files_of : List MemoryFile → Files
-files_of listed = fold (λ files file. put_at files file.path file.blob) no_files listed
+-- the file at each path
+abbrev pub files_of : BTreeMap (List (List ℕ)) (List ℕ) → Files
+files_of files = get path_cmp files
+
+-- A file stands above the path.
+abbrev pub HasFileAbove : Files → List (List ℕ) → Type 0
+HasFileAbove files path = (above : List (List ℕ)) × IsBelow above path × IsSome (files above)
 
 -- A file may stand at the path: it isn't the root, and no file stands above it or below it.
 pub record HasRoom (files : Files) (path : List (List ℕ)) : Type 0 where

@@ -8,6 +8,7 @@ pub mod MemoryTree
 pub mod Moments
 pub mod Nodes
 pub mod Obeys
+pub mod Places
 pub mod Schedule
 pub mod Sets
 pub mod State

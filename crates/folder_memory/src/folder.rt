@@ -4,7 +4,8 @@ ghost use Rattle.folder_memory.specs.State.{state_of, LeftSince};
 
 use crate::history::History;
 use crate::image::{ImageFault, first_untouched};
-use crate::nodes::{copied, has_below, is_directory, kids_of};
+use crate::nodes::{copied, is_directory};
+use crate::places::{has_below, kids_of};
 use crate::schedule::Schedule;
 use folder_core::{Failed, Folder, FolderError, Name, Node, Path, Touch};
 use osgi_version::List;
@@ -12,8 +13,7 @@ use std::alloc::Global;
 
 /// A folder in memory. It keeps a record of its calls, so that it tells every moment.
 ///
-/// A look-up costs the logarithm of the number of its paths, and a `set` as much. `kids`, `can_set` and `image` go through
-/// all of them.
+/// A look-up costs the logarithm of the number of its paths, and so do `can_set` and a `set`.
 #[derive(Debug, Drop)]
 pub struct MemoryFolder {
     history: History,
@@ -42,7 +42,7 @@ impl MemoryFolder {
         }
     }
 
-    /// These calls fail, counted from 1, from now on. They take the place of earlier ones.
+    /// These calls fail, counted from 1, from now on. They take the place of earlier ones. Each call goes through this list.
     pub fn fail_at(&mut self, calls: List<u64>)
         ensures state { told_by self.new ≡ told_by self.old }
         ensures schedule { schedule_of self.new
@@ -88,11 +88,12 @@ impl MemoryFolder {
         let Some((_, parent)) = path.names().items().split_last() else {
             return false;
         };
-        self.history.has_directory(parent) && !has_below(&self.history.nodes, path)
+        self.history.has_directory(parent, path) && !has_below(&self.history.nodes, path)
     }
 
     /// The folder as a crash may leave it: with these nodes at touched paths, and with what was synced at the others. Of
-    /// two choices for one path the later counts. Nothing is touched in it, and no call fails.
+    /// two choices for one path the later counts. Nothing is touched in it, and no call fails. It goes through the whole
+    /// record, and for each choice through the touched paths.
     pub fn image(&self, alloc: Global, choice: &List<Touch>) -> Result<MemoryFolder, ImageFault>
         ensures begins { IfOk result (λ image. BeginsWith (told_by image) (chosen_of (told_by self.now) choice.now)) }
         ensures image { IfOk result (λ image. IsImage (told_by self.now) (told_by image).now) }
@@ -110,7 +111,8 @@ impl MemoryFolder {
         }
         let mut history = self.history.synced(alloc)?;
         history.set_all(choice)?;
-        if !history.is_formed() {
+        let is_formed = history.is_formed(alloc)?;
+        if !is_formed {
             return Err(ImageFault::NotWellFormed);
         }
         history.sync();
@@ -171,6 +173,7 @@ impl Folder for MemoryFolder {
         Ok(copied(self.node(path))?)
     }
 
+    /// Goes through what stands below the path.
     fn kids(&mut self, alloc: Global, path: &Path) -> Result<List<Name>, FolderError>
         ensures kids { IfOk result (λ names. AreThose (IsKid (told_by self.old).now path.now) names) }
         ensures rising { IfOk result AreRising }

@@ -2,11 +2,14 @@ ghost use Rattle.std.specs.Prelude.{◌≡◌, ◌≢◌, ◌<◌, ◌≤◌, �
 ghost use Rattle.std.specs.Option.{option_copied};
 ghost use Rattle.folder_core.specs.declared.node.Node.TheVariants.{Dir};
 ghost use Rattle.folder_core.specs.Folder.{IsFormed};
-ghost use Rattle.folder_core.specs.Path.{IsPath};
+ghost use Rattle.folder_core.specs.Path.{IsBelow, IsPath};
 ghost use Rattle.folder_core.specs.declared.node.Touch.{Touch};
 ghost use Rattle.folder_memory.specs.Nodes.{map_of};
 
-use crate::nodes::{Nodes, copied, copied_path, find, is_directory, node_at, place};
+use crate::nodes::{
+    Nodes, copied, copied_path, is_directory, node_at, path_from, place, shows_directory,
+};
+use crate::places::last_before;
 use folder_core::{Name, Node, Path, Touch};
 use osgi_version::{NoMemory, Twin};
 use std::alloc::Global;
@@ -56,11 +59,19 @@ impl History {
         }
     }
 
-    /// Whether a directory stands at the path that has these names.
-    pub(crate) fn has_directory(&self, names: &[Name]) -> bool
+    /// Whether a directory stands at the path that has these names, which lead to another path.
+    pub(crate) fn has_directory(&self, names: &[Name], path: &Path) -> bool
+        requires formed { IsFormed (state_of self.now.events.items).now }
+        requires names { IsBelow names.now path.now }
         ensures { IsTrue result ↔ ((state_of self.now.events.items).now names.now ≡ Some Dir) }
     {
-        names.is_empty() || is_directory(find(&self.nodes, names))
+        if names.is_empty() {
+            return true;
+        }
+        match last_before(&self.nodes, path) {
+            Some((place, node)) => shows_directory(names, place, node),
+            None => false,
+        }
     }
 
     /// The node at a path.
@@ -151,28 +162,30 @@ impl History {
     }
 
     /// Whether what stands at a path stands below a directory and may stand there.
-    fn is_well_at(&self, path: &Path) -> bool
-        ensures well { IsTrue result ↔ IsWellAt (state_of self.now.events.items).now path.now }
+    fn is_well_at(&self, alloc: Global, path: &Path) -> Result<bool, NoMemory>
+        ensures well { IfOk result (λ well. IsTrue well ↔ IsWellAt (state_of self.now.events.items).now path.now) }
         ensures path { IsPath path.now }
     {
-        let Some((_, parent)) = path.names().items().split_last() else {
-            return true;
+        let Some((_, names)) = path.names().items().split_last() else {
+            return Ok(true);
         };
         let Some(node) = self.node(path) else {
-            return true;
+            return Ok(true);
         };
-        node.may_stand_at(path) && self.has_directory(parent)
+        let parent = path_from(alloc, names)?;
+        Ok(node.may_stand_at(path) && is_directory(self.node(&parent)))
     }
 
     /// Whether what stands is well formed.
-    pub(crate) fn is_formed(&self) -> bool
-        ensures { IsTrue result ↔ IsFormed (state_of self.now.events.items).now }
+    pub(crate) fn is_formed(&self, alloc: Global) -> Result<bool, NoMemory>
+        ensures { IfOk result (λ formed. IsTrue formed ↔ IsFormed (state_of self.now.events.items).now) }
     {
         for path in self.nodes.keys() {
-            if !self.is_well_at(path) {
-                return false;
+            let is_well = self.is_well_at(alloc, path)?;
+            if !is_well {
+                return Ok(false);
             }
         }
-        true
+        Ok(true)
     }
 }

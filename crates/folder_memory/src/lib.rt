@@ -7,6 +7,7 @@ mod history;
 mod image;
 mod names;
 mod nodes;
+mod places;
 mod schedule;
 mod stream;
 #[cfg(test)]

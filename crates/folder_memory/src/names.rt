@@ -1,10 +1,10 @@
-ghost use Rattle.std.specs.Prelude.{◌≡◌, ◌↔◌, ◌⊎◌, [], ◌∷◌, ◌++◌, IfOk, IsTrue, MatchOption};
+ghost use Rattle.std.specs.Prelude.{IfOk, IsTrue, MatchOption};
 ghost use Rattle.std.specs.BTreeSet.{contains};
 ghost use Rattle.std.specs.Ordering.{nat_cmp};
 ghost use Rattle.std.specs.Cmp.Lexicographic.{slice_cmp};
 ghost use Rattle.folder_core.specs.Name.{AreRising, AreThose};
 ghost use Rattle.folder_core.specs.Path.{IsBelow};
-ghost use Rattle.folder_memory.specs.Below.{IsFirstBelow, IsNoKid};
+ghost use Rattle.folder_memory.specs.Below.{IsFirstBelow};
 
 use folder_core::{Name, Path};
 use osgi_version::{List, NoMemory};
@@ -19,23 +19,6 @@ pub(crate) fn name_below<'a>(path: &Path, place: &'a Path) -> Option<&'a Name>
     let names = place.names().items();
     let rest = names.strip_prefix(front)?;
     rest.first()
-}
-
-/// Whether one of two paths is below the other.
-pub(crate) fn is_near(one: &Path, other: &Path) -> bool
-    ensures { IsTrue result ↔ (IsBelow one.now other.now ⊎ IsBelow other.now one.now) }
-{
-    name_below(one, other).is_some() || name_below(other, one).is_some()
-}
-
-/// The last name of a place that is directly below a path.
-pub(crate) fn kid_name<'a>(path: &Path, place: &'a Path) -> Option<&'a Name>
-    ensures { MatchOption result (IsNoKid path.now place.now) (λ name. place.now ≡ path.now ++ name.now ∷ []) }
-{
-    let front = path.names().items();
-    let names = place.names().items();
-    let rest = names.strip_prefix(front)?;
-    if rest.len() == 1 { rest.first() } else { None }
 }
 
 /// The names of a set, in rising order.

@@ -1,19 +1,15 @@
-ghost use Rattle.std.specs.Prelude.{◌≡◌, ◌≢◌, ◌↔◌, ◌∷◌, [], ◌++◌, IfOk, IsSome, IsTrue, OnErr, OnOk, Some};
+ghost use Rattle.std.specs.Prelude.{◌≡◌, ◌≢◌, ◌≤◌, ◌↔◌, [], length, IfOk, IsTrue, OnErr, OnOk, Some};
 ghost use Rattle.std.specs.Option.{option_copied};
-ghost use Rattle.std.specs.BTreeMap.{get};
 ghost use Rattle.folder_core.specs.Path.{IsPath};
-ghost use Rattle.folder_core.specs.PathOrder.{path_cmp};
 ghost use Rattle.folder_core.specs.Folder.{set_at};
 ghost use Rattle.folder_core.specs.declared.node.Node.{Node};
 ghost use Rattle.folder_core.specs.declared.node.Node.TheVariants.{Dir};
-ghost use Rattle.folder_core.specs.Name.{AreRising, AreThose};
-ghost use Rattle.folder_memory.specs.Nodes.{HasBelow, map_of};
+ghost use Rattle.folder_memory.specs.Nodes.{ShowsDirectory, map_of};
 
-use crate::names::{kid_name, name_below, rising};
 use folder_core::{Name, Node, Path};
-use osgi_version::{List, NoMemory, Twin};
+use osgi_version::{NoMemory, Twin};
 use std::alloc::Global;
-use std::collections::{BTreeMap, BTreeSet};
+use std::collections::BTreeMap;
 
 /// The nodes of a folder by their paths, but for its root.
 pub(crate) type Nodes = BTreeMap<Path, Node>;
@@ -36,32 +32,6 @@ pub(crate) fn copied(node: Option<&Node>) -> Result<Option<Node>, NoMemory>
         Some(node) => Ok(Some(node.copy()?)),
         None => Ok(None),
     }
-}
-
-/// Whether something stands below a path.
-pub(crate) fn has_below(nodes: &Nodes, path: &Path) -> bool
-    ensures { IsTrue result ↔ HasBelow nodes.now path.now }
-{
-    for place in nodes.keys() {
-        if name_below(path, place).is_some() {
-            return true;
-        }
-    }
-    false
-}
-
-/// The names directly below a path at which something stands.
-pub(crate) fn kids_of(alloc: Global, nodes: &Nodes, path: &Path) -> Result<List<Name>, NoMemory>
-    ensures names { IfOk result (AreThose (λ name. IsSome (get path_cmp nodes.now (path.now ++ name ∷ [])))) }
-    ensures rising { IfOk result AreRising }
-{
-    let mut names = BTreeSet::new(alloc);
-    for place in nodes.keys() {
-        if let Some(name) = kid_name(path, place) {
-            names.insert(name.copy()?)?;
-        }
-    }
-    rising(alloc, names)
 }
 
 /// Puts a node at a path that isn't the root, or takes the one there away. Refused, it changes nothing.
@@ -87,18 +57,6 @@ pub(crate) fn is_directory(node: Option<&Node>) -> bool
     matches!(node, Some(Node::Dir))
 }
 
-/// The node at the path that has these names.
-pub(crate) fn find<'a>(nodes: &'a Nodes, names: &[Name]) -> Option<&'a Node>
-    ensures { option_copied result ≡ get path_cmp nodes.now names.now }
-{
-    for place in nodes.keys() {
-        if names == place.names().items() {
-            return nodes.get(place);
-        }
-    }
-    None
-}
-
 /// A copy of a path, whose names are few and are names.
 pub(crate) fn copied_path(path: &Path) -> Result<Path, NoMemory>
     ensures copy { IfOk result (λ copy. copy ≡ path.now) }
@@ -106,4 +64,27 @@ pub(crate) fn copied_path(path: &Path) -> Result<Path, NoMemory>
 {
     let _ = path.names();
     path.copy()
+}
+
+/// The path that has these names.
+pub(crate) fn path_from(alloc: Global, names: &[Name]) -> Result<Path, NoMemory>
+    requires { length names.now ≤ 64 }
+    ensures { IfOk result (λ path. path ≡ names.now) }
+{
+    let mut path = Path::root(alloc);
+    for name in names {
+        path.push(name.copy()?)?;
+    }
+    Ok(path)
+}
+
+/// Whether a node that stands at a place shows that a directory stands at the path that has these names: it is that
+/// directory, or stands below it.
+pub(crate) fn shows_directory(names: &[Name], place: &Path, node: &Node) -> bool
+    ensures { IsTrue result ↔ ShowsDirectory names.now place.now node.now }
+{
+    match place.names().items().strip_prefix(names) {
+        Some(rest) => !rest.is_empty() || is_directory(Some(node)),
+        None => false,
+    }
 }

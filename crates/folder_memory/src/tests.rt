@@ -103,7 +103,10 @@ fn a_memory_folder_keeps_nodes(rt: HostRuntime) -> Result<(), Fail> {
         ("d/a", "link", true),
         ("d/c", "/", true),
         ("d/c/e", "first", true),
+        ("d/d", "first", true),
         ("d/b/e", "first", false),
+        ("d/e/f", "first", false),
+        ("c/d", "first", false),
         ("d/c", "", false),
         ("d/c/e", "", true),
     ];
@@ -113,6 +116,7 @@ fn a_memory_folder_keeps_nodes(rt: HostRuntime) -> Result<(), Fail> {
     let looks = [
         ("", "/"),
         ("d/b", "second"),
+        ("d/d", "first"),
         ("d/a", "link"),
         ("d/c/e", ""),
         ("e", ""),
@@ -183,12 +187,15 @@ fn a_memory_tree_keeps_files(rt: HostRuntime) -> Result<(), Fail> {
         ("b/a", true),
         ("a", true),
         ("a/b", false),
+        ("a/b/c", false),
+        ("b/b/a", true),
         ("b/c-", true),
+        ("b/b", false),
     ];
     for (at, want) in puts {
         assert_eq!(rt; put_file(alloc, &mut tree, at, b"four")?, want, "at {at}");
     }
-    for (at, want) in [("", "a b "), ("b", "a c c- "), ("a", ""), ("c", "")] {
+    for (at, want) in [("", "a b "), ("b", "a b c c- "), ("a", ""), ("c", "")] {
         let path = path_of(alloc, at)?;
         let names = names_at(alloc, &mut tree, &path)?;
         assert_eq!(rt; names.as_str(), want, "at {at}");

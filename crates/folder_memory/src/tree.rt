@@ -1,17 +1,17 @@
-ghost use Rattle.std.specs.Prelude.{◌≡◌, ◌↔◌, ◌∷◌, [], ◌++◌, IfOk, IsTrue, Some};
-ghost use Rattle.std.specs.Option.{option_copied};
+ghost use Rattle.std.specs.Prelude.{◌≡◌, ◌↔◌, IsTrue, OnErr, OnOk, Some};
 ghost use Rattle.folder_core.specs.Formed.{AreFiles-had};
-ghost use Rattle.folder_core.specs.Name.{AreRising, AreThose};
-ghost use Rattle.folder_core.specs.Tree.{AreFiles, HasBelow};
-ghost use Rattle.folder_memory.specs.Files.{files_of, HasRoom};
+ghost use Rattle.folder_core.specs.Path.{IsPath};
+ghost use Rattle.folder_core.specs.Tree.{AreFiles};
+ghost use Rattle.folder_memory.specs.Files.{files_of, put_at, HasFileAbove, HasRoom};
 
-use crate::names::{is_near, name_below, rising};
+use crate::names::name_below;
 use crate::nodes::copied_path;
+use crate::places::{has_below, kids_of, last_before};
 use crate::schedule::Schedule;
 use folder_core::{Blob, Name, Path, Tree, TreeError};
 use osgi_version::{List, NoMemory, Twin};
 use std::alloc::Global;
-use std::collections::BTreeSet;
+use std::collections::BTreeMap;
 use thiserror::Error;
 
 /// Why a file wasn't put.
@@ -41,16 +41,10 @@ impl Twin for PutFault {
     }
 }
 
-#[derive(Debug, Drop)]
-struct MemoryFile {
-    path: Path,
-    blob: Blob,
-}
-
-/// A tree of files in memory. It keeps the files in the order in which they were put, and the last at a path counts.
+/// A tree of files in memory. A look-up costs the logarithm of the number of its files, and so does a `put`.
 #[derive(Debug, Drop)]
 pub struct MemoryTree {
-    files: List<MemoryFile>,
+    files: BTreeMap<Path, Blob>,
     schedule: Schedule,
     ghost formed: { ∥ AreFiles (files_of files) ∥₁ },
 }
@@ -66,12 +60,12 @@ impl MemoryTree {
         ensures schedule { schedule_of result ≡ quiet }
     {
         MemoryTree {
-            files: List::new(alloc),
+            files: BTreeMap::new(alloc),
             schedule: Schedule::new(alloc),
         }
     }
 
-    /// These calls fail, counted from 1, from now on. They take the place of earlier ones.
+    /// These calls fail, counted from 1, from now on. They take the place of earlier ones. Each call goes through this list.
     pub fn fail_at(&mut self, calls: List<u64>)
         ensures files { told_by self.new ≡ told_by self.old }
         ensures schedule { schedule_of self.new
@@ -86,54 +80,39 @@ impl MemoryTree {
         ensures files { Puts path.now blob.now (told_by self.old) (told_by self.new) result }
         ensures schedule { schedule_of self.new ≡ schedule_of self.old }
     {
-        if !has_room(self.files.items(), path) {
+        if !has_room(&self.files, path) {
             return Err(PutFault::NotAFolder);
         }
-        let path = copied_path(path)?;
-        let blob = blob.copy()?;
-        self.files.push(MemoryFile { path, blob })?;
+        place_file(&mut self.files, path, blob)?;
         Ok(())
     }
 }
 
-fn has_room(files: &[MemoryFile], path: &Path) -> bool
+fn has_file_above(files: &BTreeMap<Path, Blob>, path: &Path) -> bool
+    requires { AreFiles (files_of files.now) }
+    ensures { IsTrue result ↔ HasFileAbove (files_of files.now) path.now }
+{
+    match last_before(files, path) {
+        Some((place, _)) => name_below(place, path).is_some(),
+        None => false,
+    }
+}
+
+fn has_room(files: &BTreeMap<Path, Blob>, path: &Path) -> bool
+    requires { AreFiles (files_of files.now) }
     ensures { IsTrue result ↔ HasRoom (files_of files.now) path.now }
 {
-    if path.names().is_empty() {
-        return false;
-    }
-    for file in files {
-        if is_near(path, &file.path) {
-            return false;
-        }
-    }
-    true
+    !path.names().is_empty() && !has_file_above(files, path) && !has_below(files, path)
 }
 
-fn last_blob<'a>(files: &'a [MemoryFile], path: &Path) -> Option<&'a Blob>
-    ensures { option_copied result ≡ files_of files.now path.now }
+/// Puts a file at a path. Refused, it changes nothing.
+fn place_file(files: &mut BTreeMap<Path, Blob>, path: &Path, blob: &Blob) -> Result<(), NoMemory>
+    ensures ok { OnOk result (files_of files.new ≡ put_at (files_of files.old) path.now blob.now) }
+    ensures err { OnErr result (files_of files.new ≡ files_of files.old) }
+    ensures path { IsPath path.now }
 {
-    let mut found = None;
-    for file in files {
-        if *path == file.path {
-            found = Some(&file.blob);
-        }
-    }
-    found
-}
-
-/// The names below a path at or below which a file stands.
-fn kids_of(alloc: Global, files: &[MemoryFile], path: &Path) -> Result<List<Name>, NoMemory>
-    ensures names { IfOk result (AreThose (λ name. HasBelow (files_of files.now) (path.now ++ name ∷ []))) }
-    ensures rising { IfOk result AreRising }
-{
-    let mut names = BTreeSet::new(alloc);
-    for file in files {
-        if let Some(name) = name_below(path, &file.path) {
-            names.insert(name.copy()?)?;
-        }
-    }
-    rising(alloc, names)
+    files.insert(copied_path(path)?, blob.copy()?)?;
+    Ok(())
 }
 
 impl Tree for MemoryTree {
@@ -152,6 +131,7 @@ impl Tree for MemoryTree {
 
     ghost formed = { λ t. AreFiles-had (files_of t.files) t.formed };
 
+    /// Goes through what stands below the path.
     fn kids(&mut self, alloc: Global, path: &Path) -> Result<List<Name>, TreeError>
         ensures kids { IfOk result (AreThose (λ name. HasBelow (told_by self.old) (path.now ++ name ∷ []))) }
         ensures rising { IfOk result AreRising }
@@ -166,7 +146,7 @@ impl Tree for MemoryTree {
         if self.schedule.next() {
             return Err(TreeError::Failed);
         }
-        Ok(kids_of(alloc, self.files.items(), path)?)
+        Ok(kids_of(alloc, &self.files, path)?)
     }
 
     fn read(&mut self, _alloc: Global, path: &Path, limit: u64) -> Result<Option<Blob>, TreeError>
@@ -185,7 +165,7 @@ impl Tree for MemoryTree {
         if self.schedule.next() {
             return Err(TreeError::Failed);
         }
-        let Some(blob) = last_blob(self.files.items(), path) else {
+        let Some(blob) = self.files.get(path) else {
             return Ok(None);
         };
         if blob.bytes().len() as u64 > limit {

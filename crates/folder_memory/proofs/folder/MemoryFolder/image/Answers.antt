@@ -24,14 +24,14 @@ returns-then-not-is_formed-clause-admits c =
     let s = state_of c.args.self.now.history.events.items in
     let made = made_of (state_of c.set_all.new.self.events.items).now (state_of c.in_ok-history.history.events.items).now s.synced c.items-choice.result.now c.args.choice.now c.in_ok-set_all.ensures c.in_ok-history.ensures c.items-choice.ensures in (
       same_touched c.touched.result.now s.touched c.items-choice.result.now c.args.choice.now c.touched.ensures c.items-choice.ensures c.in_default.ensures,
-      λ formed. false≢true (sym c.if-not-is_formed.true ∙ c.is_formed.ensures.1 (subst IsFormed (sym made) formed)),
+      λ formed. false≢true (sym c.if-not-is_formed.true ∙ c.in_ok-is_formed.ensures.1 (subst IsFormed (sym made) formed)),
     )
 
 pub returns-then-not-is_formed-clause-each : goal.returns-then-not-is_formed-clause-each
 returns-then-not-is_formed-clause-each c m image chosen =
     let s = state_of c.args.self.now.history.events.items in
     let made = made_of (state_of c.set_all.new.self.events.items).now (state_of c.in_ok-history.history.events.items).now s.synced c.items-choice.result.now c.args.choice.now c.in_ok-set_all.ensures c.in_ok-history.ensures c.items-choice.ensures in
-    false≢true (sym c.if-not-is_formed.true ∙ c.is_formed.ensures.1 (subst IsFormed (sym (made ∙ image_chosen s m c.args.choice.now image chosen)) image.formed))
+    false≢true (sym c.if-not-is_formed.true ∙ c.in_ok-is_formed.ensures.1 (subst IsFormed (sym (made ∙ image_chosen s m c.args.choice.now image chosen)) image.formed))
 
 -- an image
 
@@ -41,14 +41,14 @@ returns-clause-image c =
     let made = made_of (state_of c.set_all.new.self.events.items).now (state_of c.in_ok-history.history.events.items).now s.synced c.items-choice.result.now c.args.choice.now c.in_ok-set_all.ensures c.in_ok-history.ensures c.items-choice.ensures in
     let are = same_touched c.touched.result.now s.touched c.items-choice.result.now c.args.choice.now c.touched.ensures c.items-choice.ensures c.in_default.ensures in
     chosen_image s c.args.choice.now (state_of c.sync.new.self.events.items).now (c.sync.ensures.now ∙ made) are
-    (subst IsFormed (sym c.sync.ensures.now) (c.is_formed.ensures.0 c.if-not-is_formed.false))
+    (subst IsFormed (sym c.sync.ensures.now) (c.in_ok-is_formed.ensures.0 c.if-not-is_formed.false))
 
 pub returns-clause-admits : goal.returns-clause-admits
 returns-clause-admits c =
     let s = state_of c.args.self.now.history.events.items in
     let made = made_of (state_of c.set_all.new.self.events.items).now (state_of c.in_ok-history.history.events.items).now s.synced c.items-choice.result.now c.args.choice.now c.in_ok-set_all.ensures c.in_ok-history.ensures c.items-choice.ensures in (
       same_touched c.touched.result.now s.touched c.items-choice.result.now c.args.choice.now c.touched.ensures c.items-choice.ensures c.in_default.ensures,
-      subst IsFormed made (c.is_formed.ensures.0 c.if-not-is_formed.false),
+      subst IsFormed made (c.in_ok-is_formed.ensures.0 c.if-not-is_formed.false),
     )
 
 pub returns-clause-each : goal.returns-clause-each

@@ -12,7 +12,7 @@ use Rattle.folder_memory.proofs.history.History.is_formed.Goals as goal
 pub loop-path-preserved : goal.loop-path-preserved
 loop-path-preserved c =
     AreWell-next (state_of c.args.self.now.events.items).now c.loop-path.yielded c.in-Some.path c.loop-path.invariant
-    (c.is_well_at.ensures.well.0 c.if-not-is_well_at.false) c.is_well_at.ensures.path
+    (c.in_ok-is_well.ensures.well.0 c.if-not-is_well.false) c.is_well_at.ensures.path
 
 pub returns : goal.returns
 returns c =
@@ -21,7 +21,7 @@ returns c =
     let formed = formed_of (state_of h.events.items).now h.nodes c.loop-path.yielded (stands_at h.events.items h.nodes h.stands) whole c.loop-path.invariant in
     (λ always. formed, λ had. refl)
 
-pub returns-then-not-is_well_at : goal.returns-then-not-is_well_at
-returns-then-not-is_well_at c =
+pub returns-then-not-is_well : goal.returns-then-not-is_well
+returns-then-not-is_well c =
     let m = (state_of c.args.self.now.events.items).now in
-    (λ never. absurd (false≢true never), λ formed. sym c.if-not-is_well_at.true ∙ c.is_well_at.ensures.well.1 (well_at m c.in-Some.path.now formed))
+    (λ never. absurd (false≢true never), λ formed. sym c.if-not-is_well.true ∙ c.in_ok-is_well.ensures.well.1 (well_at m c.in-Some.path.now formed))

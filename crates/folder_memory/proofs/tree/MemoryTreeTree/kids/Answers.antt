@@ -1,9 +1,5 @@
-use Rattle.std.proofs.Common.{[], ◌∷◌, ◌++◌, subst}
-use Rattle.folder_core.specs.Name.{AreThose}
-use Rattle.folder_memory.specs.Files.{files_of}
-use Rattle.folder_core.specs.Tree.{HasBelow}
+use Rattle.folder_memory.proofs.Files.{kids_told}
 use Rattle.folder_memory.proofs.tree.MemoryTreeTree.kids.Goals as goal
 
 pub returns-clause-kids : goal.returns-clause-kids
-returns-clause-kids c =
-    subst (λ fs. AreThose (λ name. HasBelow (files_of fs) (c.args.path.now ++ name ∷ [])) c.in_ok-kids_of.field-0) c.items.ensures c.in_ok-kids_of.ensures.names
+returns-clause-kids c = kids_told c.args.self.now.files c.args.path.now c.in_ok-kids_of.field-0 c.in_ok-kids_of.ensures.names

@@ -1,3 +1,5 @@
+pub mod Bytes
+pub mod Fields
 pub mod RangePlaces
 pub mod Sequences
 mod RangeSpelling

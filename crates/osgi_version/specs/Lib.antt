@@ -5,6 +5,7 @@ pub mod IntervalReading
 pub mod RangeText
 pub mod Sequence
 pub mod TextFault
+pub mod Unescaped
 pub mod VersionOrder
 pub mod VersionReading
 pub mod VersionSteps

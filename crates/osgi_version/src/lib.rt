@@ -2,6 +2,7 @@
 #![tactic(auto)]
 
 mod field;
+mod field_reading;
 mod interval;
 mod list;
 mod memory;
@@ -12,6 +13,7 @@ mod twin;
 mod version;
 
 pub use field::{push_field, push_number};
+pub use field_reading::read_field;
 pub use list::List;
 pub use memory::NoMemory;
 pub use range::{Ceiling, Range};

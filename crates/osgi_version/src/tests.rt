@@ -2,6 +2,7 @@
 
 use crate::{
     Ceiling, List, Range, Text, TextFault, Twin, Version, VersionFault, push_field, push_number,
+    read_field,
 };
 use std::alloc::{AllocError, Global};
 use std::cmp::Ordering;
@@ -249,5 +250,34 @@ fn texts_stand_in_lines_as_fields(rt: HostRuntime) -> Result<(), Fail> {
     push_number(&mut line, 4294967295)?;
     assert_eq!(rt; line.as_slice(), b"04294967295".as_slice());
     assert_eq!(rt; Text::from_ascii(alloc, b"a/b")?.as_str(), "a/b");
+    Ok(())
+}
+
+#[test]
+fn fields_are_read(rt: HostRuntime) -> Result<(), Fail> {
+    let alloc = rt.alloc();
+    for (field, text) in [
+        ("%-", Some("")),
+        ("org.example.b1", Some("org.example.b1")),
+        ("a%20b", Some("a b")),
+        ("100%25", Some("100%")),
+        ("%C3%A9%7F", Some("\u{e9}\u{7f}")),
+        ("%25-", Some("%-")),
+        // other spellings of a text
+        ("", None),
+        ("a b", None),
+        ("%61", None),
+        ("%c3%a9", None),
+        ("a%-", None),
+        // no text
+        ("%", None),
+        ("%2", None),
+        ("%2G", None),
+        ("%FF", None),
+    ] {
+        let read = read_field(alloc, field.as_bytes())?;
+        let found = read.as_ref().map(|text| text.as_str());
+        assert_eq!(rt; found, text, "of {field:?}");
+    }
     Ok(())
 }

@@ -9,11 +9,14 @@ use Rattle.osgi_version.specs.RangeText.{DenotesRange, IsRange}
 use Rattle.osgi_version.specs.declared.version.Version.{Version}
 use Rattle.osgi_version.specs.declared.range.Range.{Range}
 use Rattle.osgi_version.proofs.VersionPlaces.{IsVersion-denoted}
+use Rattle.ldap_filter.specs.FilterText.{DenotesFilter, IsFilter}
+use Rattle.ldap_filter.specs.declared.filter.Filter.{Filter}
 use Rattle.unit_model.specs.UnitId.{IsUnitId}
 use Rattle.unit_model.specs.declared.name.UnitName.{UnitName}
 use Rattle.unit_model.specs.declared.unit.Unit.{Unit}
 use Rattle.unit_model.specs.declared.update.Update.{Update}
 use Rattle.unit_model.specs.declared.provided.Provided.{Provided}
+use Rattle.unit_model.specs.declared.required.Required.{Required}
 use Rattle.inf_reader.specs.declared.class.Class.{Class}
 use Rattle.inf_reader.specs.declared.class.Class.TheVariants as class
 use Rattle.inf_reader.specs.declared.entries.Entry.{Entry}
@@ -23,7 +26,7 @@ use Rattle.inf_reader.specs.declared.value.Value.{Value}
 use Rattle.inf_reader.specs.declared.value.Value.TheVariants as values
 use Rattle.inf_reader.specs.declared.fault.InfRefusal.{InfRefusal}
 use Rattle.inf_reader.specs.declared.fault.InfRefusal.TheVariants.{UnknownKey, LeftOutKey, NoHost, MissingId, BadValue, Duplicate, TooManyRequirements, NoMemory}
-use Rattle.inf_reader.specs.InForm.{HasVersion, IsUnitInForm, IsRefusalInForm, InForm}
+use Rattle.inf_reader.specs.InForm.{HasVersion, IsRequiredInForm, IsUnitInForm, IsRefusalInForm, InForm}
 use Rattle.inf_reader.specs.Gives.{◌>>=◌, Gives}
 use Rattle.inf_reader.specs.Readings.{Readings, ReadsAll, Reads, value_of}
 use Rattle.inf_reader.specs.Host.{is_id, stands_alone, version_at, named, named_by, host_from, host_of}
@@ -31,7 +34,7 @@ use Rattle.inf_reader.specs.Meaning.{meaning_of}
 use Rattle.inf_reader.specs.Replaced.{replaced}
 use Rattle.inf_reader.specs.KeyText.{single_key, row_key}
 use Rattle.inf_reader.specs.Entries.{Pair, taken_class, taken_meaning, taken, hosted, placed, entry_of, entries_of}
-use Rattle.inf_reader.specs.Parts.{At, has, plain_in, id_in, version_in, range_in, number_in, in_form, in_form_or, needed_text, needed_id, needed_version, version_or, range_or, number_or}
+use Rattle.inf_reader.specs.Parts.{At, has, plain_in, id_in, version_in, range_in, filter_in, number_in, in_form, in_form_or, in_form_if_there, needed_text, needed_id, needed_version, version_or, range_or, number_or, filter_if_there}
 use Rattle.inf_reader.specs.Placing.{value_with, value_at, places_of, owners_of, rows_in}
 use Rattle.inf_reader.specs.UnitParts.{traverse, below_version, any_version, listed_name, name_of, update_of, has_touchpoint, needed_touchpoint, touchpoint_of, property_row, provided_row, with_itself, is_of_units, provided_of, required_row, required_of, artifact_row}
 use Rattle.inf_reader.specs.UnitsOf.{unit_of, has_name, units_from, units_in, units_of}
@@ -68,6 +71,7 @@ abbrev IsValueInForm : Value → Type 0
 IsValueInForm (values.Plain text) = ⊤
 IsValueInForm (values.Version found) = IfSome found IsVersion
 IsValueInForm (values.Range found) = IfSome found IsRange
+IsValueInForm (values.Filter found) = IfSome found IsFilter
 
 abbrev AreInForm : At → Type 0
 AreInForm at = (key : List ℕ) → IfSome (at key) IsValueInForm
@@ -80,6 +84,10 @@ range_denoted : (text : List ℕ) (found : Option Range) → Reads DenotesRange 
 range_denoted text None h = tt
 range_denoted text (Some r) h = range_formed text r h
 
+filter_denoted : (text : List ℕ) (found : Option Filter) → Reads DenotesFilter text found → IfSome found IsFilter
+filter_denoted text None h = tt
+filter_denoted text (Some f) h = (text, h)
+
 module _ (read : Readings) (reads : ReadsAll read) where
   value_formed : (c : Class) (text : List ℕ) → IsValueInForm (value_of read c text)
   value_formed class.Plain text = tt
@@ -87,6 +95,7 @@ module _ (read : Readings) (reads : ReadsAll read) where
   value_formed class.LeftOut text = tt
   value_formed class.Version text = version_denoted text (read.version text) (reads.version text)
   value_formed class.Range text = range_denoted text (read.range text) (reads.range text)
+  value_formed class.Filter text = filter_denoted text (read.filter text) (reads.filter text)
 
   with_formed : (key : List ℕ) (found : Option Value) (e : Entry) → IfSome found IsValueInForm → IfSome (value_with read key found e) IsValueInForm
   with_formed key found e h = by (bytes_eq e.key key)
@@ -148,6 +157,11 @@ formed_or : {X : Type 0} (P : X → Type 0) (form : Value → Option X) (key : L
 formed_or P form key default None h d = d
 formed_or P form key default (Some value) h d = formed P key (form value) h
 
+formed_if_there : {X : Type 0} (P : X → Type 0) (form : Value → Option X) (key : List ℕ) (found : Option Value)
+    → IfSome found (λ value. IfSome (form value) P) → IfRead (λ x. IfSome x P) (in_form_if_there form key found)
+formed_if_there P form key None h = tt
+formed_if_there P form key (Some value) h = bind P (λ x. IfSome x P) (in_form key (form value)) _ (formed P key (form value) h) (λ x p. p)
+
 any_some : {X : Type 0} (found : Option X) → IfSome found Any
 any_some None = tt
 any_some (Some x) = tt
@@ -156,11 +170,19 @@ version_some : (value : Value) → IsValueInForm value → IfSome (version_in va
 version_some (values.Plain text) h = tt
 version_some (values.Version found) h = h
 version_some (values.Range found) h = tt
+version_some (values.Filter found) h = tt
 
 range_some : (value : Value) → IsValueInForm value → IfSome (range_in value) IsRange
 range_some (values.Plain text) h = tt
 range_some (values.Version found) h = tt
 range_some (values.Range found) h = h
+range_some (values.Filter found) h = tt
+
+filter_some : (value : Value) → IsValueInForm value → IfSome (filter_in value) IsFilter
+filter_some (values.Plain text) h = tt
+filter_some (values.Version found) h = tt
+filter_some (values.Range found) h = tt
+filter_some (values.Filter found) h = h
 
 id_some : (text : List ℕ) (b : Bool) → is_id text ≡ b → IfSome (if b then Some text else None) IsUnitId
 id_some text true e = is_id-sound text e
@@ -215,6 +237,13 @@ module _ (at : At) (owner : ℕ) (formed_at : AreInForm at) where
   number_or_read : (key : List ℕ) (default : ℕ) → IfRead Any (number_or at key default)
   unfolding number_or
   number_or_read key default = formed_or Any number_in key default (at key) (some_weaker IsValueInForm (λ value. IfSome (number_in value) Any) (at key) (λ value h. any_some (number_in value)) (formed_at key)) tt
+
+  abbrev HasText : Option Filter → Type 0
+  HasText filter = IfSome filter IsFilter
+
+  filter_at_read : (key : List ℕ) → IfRead HasText (filter_if_there at key)
+  unfolding filter_if_there
+  filter_at_read key = formed_if_there IsFilter filter_in key (at key) (some_weaker IsValueInForm (λ value. IfSome (filter_in value) IsFilter) (at key) filter_some (formed_at key))
 
   listed_formed : IfRead IsNameInForm (listed_name at owner)
   unfolding listed_name
@@ -274,23 +303,27 @@ module _ (at : At) (owner : ℕ) (formed_at : AreInForm at) where
       bind (All HasVersion) (All HasVersion) (traverse (provided_row at owner name.version) rows) _ (each HasVersion _ rows (provided_read name.version h)) (λ provided ps.
       with_itself_formed name provided h ps)
 
-  required_read : (row : ℕ) → IfRead Any (required_row at owner row)
+  required_read : (row : ℕ) → IfRead IsRequiredInForm (required_row at owner row)
   unfolding required_row
   required_read row =
-      bind Any Any (needed_text at (row_key owner (codes "requires") row (codes "namespace"))) _ (text_read _) (λ namespace any.
-      bind Any Any (needed_text at (row_key owner (codes "requires") row (codes "name"))) _ (text_read _) (λ name any.
-      bind IsRange Any (range_or at (row_key owner (codes "requires") row (codes "range")) any_version) _ (range_or_read _ _ any_is_range) (λ range is.
-      bind Any Any (number_or at (row_key owner (codes "requires") row (codes "min")) 1) _ (number_or_read _ 1) (λ min any.
-      bind Any Any (number_or at (row_key owner (codes "requires") row (codes "max")) 2147483647) _ (number_or_read _ 2147483647) (λ max any. tt)))))
+      bind Any IsRequiredInForm (needed_text at (row_key owner (codes "requires") row (codes "namespace"))) _ (text_read _) (λ namespace any.
+      bind Any IsRequiredInForm (needed_text at (row_key owner (codes "requires") row (codes "name"))) _ (text_read _) (λ name any.
+      bind IsRange IsRequiredInForm (range_or at (row_key owner (codes "requires") row (codes "range")) any_version) _ (range_or_read _ _ any_is_range) (λ range is_range.
+      bind HasText IsRequiredInForm (filter_if_there at (row_key owner (codes "requires") row (codes "filter"))) _ (filter_at_read _) (λ filter has_text.
+      bind Any IsRequiredInForm (number_or at (row_key owner (codes "requires") row (codes "min")) 1) _ (number_or_read _ 1) (λ min any.
+      bind Any IsRequiredInForm (number_or at (row_key owner (codes "requires") row (codes "max")) 2147483647) _ (number_or_read _ 2147483647) (λ max any.
+      record { range = is_range; filter = has_text }))))))
 
   all_any : {X : Type 0} (f : ℕ → Result X InfRefusal) (rows : List ℕ) → ((row : ℕ) → IfRead Any (f row)) → IfRead Any (traverse f rows)
   unfolding traverse
   all_any f [] h = tt
   all_any f (row ∷ rows) h = bind Any Any (f row) _ (h row) (λ x any. bind Any Any (traverse f rows) _ (all_any f rows h) (λ xs any. tt))
 
-  required_formed : (name : UnitName) (rows : List ℕ) → IfRead Any (required_of at owner name rows)
+  required_formed : (name : UnitName) (rows : List ℕ) → IfRead (All IsRequiredInForm) (required_of at owner name rows)
   unfolding required_of
-  required_formed name rows = either Any (nat_lt 1024 (length rows)) (Err (TooManyRequirements name)) (traverse (required_row at owner) rows) tt (all_any (required_row at owner) rows required_read)
+  required_formed name rows =
+      either (All IsRequiredInForm) (nat_lt 1024 (length rows)) (Err (TooManyRequirements name)) (traverse (required_row at owner) rows) tt
+      (each IsRequiredInForm (required_row at owner) rows required_read)
 
   artifact_read : (row : ℕ) → IfRead Any (artifact_row at owner row)
   unfolding artifact_row
@@ -303,13 +336,14 @@ module _ (at : At) (owner : ℕ) (formed_at : AreInForm at) where
   unfolding unit_of
   unit_formed host places h =
       bind IsNameInForm IsUnitInForm (name_of host at owner) _ (name_formed host h) (λ name is_name.
+      bind HasText IsUnitInForm (filter_if_there at (single_key owner (codes "filter"))) _ (filter_at_read _) (λ filter has_text.
       bind HasRange IsUnitInForm (update_of at owner name) _ (update_formed name is_name) (λ update has_range.
       bind Any IsUnitInForm (touchpoint_of at owner) _ touchpoint_read (λ touchpoint any.
       bind Any IsUnitInForm (traverse (property_row at owner) (rows_in places owner 1)) _ (all_any (property_row at owner) (rows_in places owner 1) property_read) (λ properties any.
       bind (All HasVersion) IsUnitInForm (provided_of at owner name (rows_in places owner 2)) _ (provided_formed name is_name.version (rows_in places owner 2)) (λ provided have.
-      bind Any IsUnitInForm (required_of at owner name (rows_in places owner 3)) _ (required_formed name (rows_in places owner 3)) (λ required any.
+      bind (All IsRequiredInForm) IsUnitInForm (required_of at owner name (rows_in places owner 3)) _ (required_formed name (rows_in places owner 3)) (λ required are_in_form.
       bind Any IsUnitInForm (traverse (artifact_row at owner) (rows_in places owner 4)) _ (all_any (artifact_row at owner) (rows_in places owner 4) artifact_read) (λ artifacts any.
-      record { id = is_name.id; version = is_name.version; range = has_range; provided = have })))))))
+      record { id = is_name.id; version = is_name.version; filter = has_text; range = has_range; provided = have; required = are_in_form }))))))))
 
 -- ---- units
 
@@ -328,6 +362,7 @@ class_read key meaning class.NoEffect = tt
 class_read key meaning class.Plain = tt
 class_read key meaning class.Version = tt
 class_read key meaning class.Range = tt
+class_read key meaning class.Filter = tt
 
 meaning_read : (key : List ℕ) (meaning : Option Meaning) → IfRead Any (taken_meaning key meaning)
 meaning_read key None = tt

@@ -1,4 +1,5 @@
 pub mod EntryLemmas
+pub mod FilterReadings
 pub mod FormLemmas
 pub mod HostLemmas
 pub mod IdLemmas

@@ -15,7 +15,7 @@ unit_parts =
     (codes "id", class.Plain)
     ∷ (codes "version", class.Version)
     ∷ (codes "singleton", class.Plain)
-    ∷ (codes "filter", class.LeftOut)
+    ∷ (codes "filter", class.Filter)
     ∷ (codes "touchpoint.id", class.Plain)
     ∷ (codes "touchpoint.version", class.Version)
     ∷ []
@@ -73,7 +73,7 @@ required_fields =
     ∷ (codes "greedy", class.Plain)
     ∷ (codes "optional", class.Plain)
     ∷ (codes "multiple", class.Plain)
-    ∷ (codes "filter", class.LeftOut)
+    ∷ (codes "filter", class.Filter)
     ∷ (codes "min", class.Plain)
     ∷ (codes "max", class.Plain)
     ∷ (codes "matchExp", class.LeftOut)

@@ -21,6 +21,7 @@ taken_class key meaning class.NoEffect = Ok None
 taken_class key meaning class.Plain = Ok (Some meaning)
 taken_class key meaning class.Version = Ok (Some meaning)
 taken_class key meaning class.Range = Ok (Some meaning)
+taken_class key meaning class.Filter = Ok (Some meaning)
 
 abbrev pub taken_meaning : List ℕ → Option Meaning → Result (Option Meaning) InfRefusal
 taken_meaning key None = Err (UnknownKey key)

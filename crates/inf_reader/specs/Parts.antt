@@ -4,10 +4,12 @@ use Rattle.std.specs.Str.{bytes_eq}
 use Rattle.std.specs.Char.{to_ascii_lowercase}
 use Rattle.osgi_version.specs.declared.version.Version.{Version}
 use Rattle.osgi_version.specs.declared.range.Range.{Range}
+use Rattle.ldap_filter.specs.declared.filter.Filter.{Filter}
 use Rattle.inf_reader.specs.declared.value.Value.{Value}
 use Rattle.inf_reader.specs.declared.value.Value.TheVariants as values
 use Rattle.inf_reader.specs.declared.fault.InfRefusal.{InfRefusal}
 use Rattle.inf_reader.specs.declared.fault.InfRefusal.TheVariants.{BadValue}
+use Rattle.inf_reader.specs.Gives.{◌>>=◌}
 use Rattle.inf_reader.specs.Host.{is_id}
 use Rattle.inf_reader.specs.Number.{number_at_most}
 
@@ -18,6 +20,7 @@ abbrev pub plain_in : Value → Option (List ℕ)
 plain_in (values.Plain text) = Some text
 plain_in (values.Version version) = None
 plain_in (values.Range range) = None
+plain_in (values.Filter filter) = None
 
 -- a text that has the form of a unit's id
 abbrev pub id_in : Value → Option (List ℕ)
@@ -27,11 +30,19 @@ abbrev pub version_in : Value → Option Version
 version_in (values.Plain text) = None
 version_in (values.Version version) = version
 version_in (values.Range range) = None
+version_in (values.Filter filter) = None
 
 abbrev pub range_in : Value → Option Range
 range_in (values.Plain text) = None
 range_in (values.Version version) = None
 range_in (values.Range range) = range
+range_in (values.Filter filter) = None
+
+abbrev pub filter_in : Value → Option Filter
+filter_in (values.Plain text) = None
+filter_in (values.Version version) = None
+filter_in (values.Range range) = None
+filter_in (values.Filter filter) = filter
 
 -- a number of at most 2147483647
 abbrev pub number_in : Value → Option ℕ
@@ -61,6 +72,11 @@ abbrev pub in_form_or : {X : Type 0} → (Value → Option X) → List ℕ → X
 in_form_or form key default None = Ok default
 in_form_or form key default (Some value) = in_form key (form value)
 
+-- the same, or nothing for a missing one
+abbrev pub in_form_if_there : {X : Type 0} → (Value → Option X) → List ℕ → Option Value → Result (Option X) InfRefusal
+in_form_if_there form key None = Ok None
+in_form_if_there form key (Some value) = in_form key (form value) >>= λ x. Ok (Some x)
+
 unfoldable pub text_or : At → List ℕ → List ℕ → List ℕ
 text_or at key default = unwrap_or (option_and_then plain_in (at key)) default
 
@@ -88,3 +104,6 @@ range_or at key default = in_form_or range_in key default (at key)
 
 unfoldable pub number_or : At → List ℕ → ℕ → Result ℕ InfRefusal
 number_or at key default = in_form_or number_in key default (at key)
+
+unfoldable pub filter_if_there : At → List ℕ → Result (Option Filter) InfRefusal
+filter_if_there at key = in_form_if_there filter_in key (at key)

@@ -4,6 +4,8 @@ use Rattle.osgi_version.specs.declared.version.Version.{Version}
 use Rattle.osgi_version.specs.declared.range.Range.{Range}
 use Rattle.osgi_version.specs.VersionText.{DenotesVersion}
 use Rattle.osgi_version.specs.RangeText.{DenotesRange}
+use Rattle.ldap_filter.specs.FilterText.{DenotesFilter}
+use Rattle.ldap_filter.specs.declared.filter.Filter.{Filter}
 use Rattle.inf_reader.specs.declared.class.Class.{Class}
 use Rattle.inf_reader.specs.declared.class.Class.TheVariants as class
 use Rattle.inf_reader.specs.declared.value.Value.{Value}
@@ -15,18 +17,21 @@ abbrev pub Reads : {X : Type 0} → (List ℕ → X → Type 0) → List ℕ →
 Reads Denotes text (Some x) = Denotes text x
 Reads {X} Denotes text None = (x : X) → ¬ (Denotes text x)
 
--- a way to read versions and ranges
+-- a way to read versions, ranges and filters
 pub record Readings : Type 0 where
   pub version : List ℕ → Option Version
   pub range : List ℕ → Option Range
+  pub filter : List ℕ → Option Filter
 
 -- Every text is read as what it denotes.
 pub record ReadsAll (read : Readings) : Type 0 where
   pub version : (text : List ℕ) → Reads DenotesVersion text (read.version text)
   pub range : (text : List ℕ) → Reads DenotesRange text (read.range text)
+  pub filter : (text : List ℕ) → Reads DenotesFilter text (read.filter text)
 
 -- the value of a key of this class
 abbrev pub value_of : Readings → Class → List ℕ → Value
 value_of read class.Version text = values.Version (read.version text)
 value_of read class.Range text = values.Range (read.range text)
+value_of read class.Filter text = values.Filter (read.filter text)
 value_of read _ text = values.Plain text

@@ -20,7 +20,7 @@ use Rattle.inf_reader.specs.declared.fault.InfRefusal.TheVariants.{MissingId, To
 use Rattle.inf_reader.specs.Gives.{◌>>=◌}
 use Rattle.inf_reader.specs.Host.{is_empty}
 use Rattle.inf_reader.specs.KeyText.{single_key, row_key}
-use Rattle.inf_reader.specs.Parts.{At, has, text_or, truth_or, needed_text, needed_id, needed_version, version_or, range_or, number_or}
+use Rattle.inf_reader.specs.Parts.{At, has, text_or, truth_or, needed_text, needed_id, needed_version, version_or, range_or, number_or, filter_if_there}
 
 -- what each row gives, or the first refusal
 unfoldable pub traverse : {X : Type 0} → (ℕ → Result X InfRefusal) → List ℕ → Result (List X) InfRefusal
@@ -109,13 +109,14 @@ required_row at owner row =
     needed_text at (row_key owner (codes "requires") row (codes "namespace")) >>= λ namespace.
     needed_text at (row_key owner (codes "requires") row (codes "name")) >>= λ name.
     range_or at (row_key owner (codes "requires") row (codes "range")) any_version >>= λ range.
+    filter_if_there at (row_key owner (codes "requires") row (codes "filter")) >>= λ filter.
     number_or at (row_key owner (codes "requires") row (codes "min")) 1 >>= λ min.
     number_or at (row_key owner (codes "requires") row (codes "max")) 2147483647 >>= λ max.
     Ok (record {
       namespace = namespace;
       name = name;
       range = range;
-      filter = None;
+      filter = filter;
       min = if truth_or at (row_key owner (codes "requires") row (codes "optional")) false then 0 else min;
       max = max;
       greedy = truth_or at (row_key owner (codes "requires") row (codes "greedy")) true;

@@ -12,7 +12,7 @@ use Rattle.inf_reader.specs.Gives.{◌>>=◌}
 use Rattle.inf_reader.specs.KeyText.{single_key}
 use Rattle.inf_reader.specs.Entries.{Pair, entries_of}
 use Rattle.inf_reader.specs.Host.{host_of}
-use Rattle.inf_reader.specs.Parts.{At, truth_or}
+use Rattle.inf_reader.specs.Parts.{At, truth_or, filter_if_there}
 use Rattle.inf_reader.specs.Placing.{value_at, places_of, owners_of, rows_in}
 use Rattle.inf_reader.specs.Readings.{Readings}
 use Rattle.inf_reader.specs.UnitParts.{name_of, update_of, touchpoint_of, traverse, property_row, provided_of, required_of, artifact_row, phases_of}
@@ -21,6 +21,7 @@ use Rattle.inf_reader.specs.UnitParts.{name_of, update_of, touchpoint_of, traver
 unfoldable pub unit_of : Option UnitName → At → List Place → ℕ → Result Unit InfRefusal
 unit_of host at places owner =
     name_of host at owner >>= λ name.
+    filter_if_there at (single_key owner (codes "filter")) >>= λ filter.
     update_of at owner name >>= λ update.
     touchpoint_of at owner >>= λ touchpoint.
     traverse (property_row at owner) (rows_in places owner 1) >>= λ properties.
@@ -30,7 +31,7 @@ unit_of host at places owner =
     Ok (record {
       name = name;
       singleton = truth_or at (single_key owner (codes "singleton")) false;
-      filter = None;
+      filter = filter;
       update = update;
       touchpoint = touchpoint;
       properties = properties;

@@ -14,6 +14,7 @@ pub(crate) enum Class {
     Plain,
     Version,
     Range,
+    Filter,
 }
 
 /// A list of rows.
@@ -36,7 +37,7 @@ pub(crate) fn unit_part(name: &[u8]) -> Option<Class>
     } else if name == b"singleton".as_slice() {
         Some(Class::Plain)
     } else if name == b"filter".as_slice() {
-        Some(Class::LeftOut)
+        Some(Class::Filter)
     } else if name == b"touchpoint.id".as_slice() {
         Some(Class::Plain)
     } else if name == b"touchpoint.version".as_slice() {
@@ -146,7 +147,7 @@ pub(crate) fn required_field(name: &[u8]) -> Option<Class>
     } else if name == b"multiple".as_slice() {
         Some(Class::Plain)
     } else if name == b"filter".as_slice() {
-        Some(Class::LeftOut)
+        Some(Class::Filter)
     } else if name == b"min".as_slice() {
         Some(Class::Plain)
     } else if name == b"max".as_slice() {

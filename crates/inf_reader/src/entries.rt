@@ -35,7 +35,7 @@ fn taken(key: &Text) -> Result<Option<Meaning>, InfRefusal>
     match meaning.class {
         Class::LeftOut => Err(InfRefusal::LeftOutKey(key.copy()?)),
         Class::NoEffect => Ok(None),
-        Class::Plain | Class::Version | Class::Range => Ok(Some(meaning)),
+        Class::Plain | Class::Version | Class::Range | Class::Filter => Ok(Some(meaning)),
     }
 }
 

@@ -4,11 +4,12 @@ ghost use Rattle.std.specs.Prelude.{◌≡◌, IfOk};
 ghost use Rattle.inf_reader.specs.Gives.{Gives};
 ghost use Rattle.inf_reader.specs.TableAt.{at};
 ghost use Rattle.inf_reader.specs.KeyText.{single_key, row_key};
-ghost use Rattle.inf_reader.specs.Parts.{text_or, needed_text, needed_id, needed_version, version_or, range_or, number_or, truth_or, has};
+ghost use Rattle.inf_reader.specs.Parts.{text_or, needed_text, needed_id, needed_version, version_or, range_or, number_or, filter_if_there, truth_or, has};
 
 use crate::fault::InfRefusal;
 use crate::key_text::{row_key, single_key};
 use crate::table::Table;
+use ldap_filter::Filter;
 use osgi_version::{NoMemory, Range, Text, Version};
 use std::alloc::Global;
 
@@ -79,6 +80,17 @@ pub(crate) fn part_number_or(
     ensures { Gives (λ number. number) result (number_or (at table.now) (single_key owner part.now) default) }
 {
     table.number_or(single_key(alloc, owner, part)?, default)
+}
+
+pub(crate) fn part_filter(
+    alloc: Global,
+    table: &Table,
+    owner: u32,
+    part: &str,
+) -> Result<Option<Filter>, InfRefusal>
+    ensures { Gives (λ filter. filter) result (filter_if_there (at table.now) (single_key owner part.now)) }
+{
+    table.filter_if_there(single_key(alloc, owner, part)?)
 }
 
 pub(crate) fn part_text_or(
@@ -186,6 +198,19 @@ pub(crate) fn row_number_or(
     ensures { Gives (λ number. number) result (number_or (at table.now) (row_key owner list.now row field.now) default) }
 {
     table.number_or(row_key(alloc, owner, list, row, field)?, default)
+}
+
+pub(crate) fn row_filter(
+    alloc: Global,
+    table: &Table,
+    owner: u32,
+    list: &str,
+    row: u32,
+    field: &str,
+) -> Result<Option<Filter>, InfRefusal>
+    ensures { Gives (λ filter. filter) result (filter_if_there (at table.now) (row_key owner list.now row field.now)) }
+{
+    table.filter_if_there(row_key(alloc, owner, list, row, field)?)
 }
 
 pub(crate) fn row_truth_or(

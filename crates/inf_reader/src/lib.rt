@@ -24,4 +24,6 @@ pub use names::NameSet;
 pub use units::units_of;
 
 #[cfg(test)]
+mod filter_tests;
+#[cfg(test)]
 mod tests;

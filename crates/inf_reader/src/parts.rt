@@ -5,13 +5,14 @@ ghost use Rattle.std.specs.Option.{option_map, option_copied};
 ghost use Rattle.std.specs.Str.{bytes_eq};
 ghost use Rattle.inf_reader.specs.Gives.{Gives};
 ghost use Rattle.inf_reader.specs.TableAt.{at};
-ghost use Rattle.inf_reader.specs.Parts.{plain_in, id_in, version_in, range_in, number_in, is_true, is_true_in, text_or, needed_text, needed_id, needed_version, version_or, range_or, number_or, truth_or, has};
+ghost use Rattle.inf_reader.specs.Parts.{plain_in, id_in, version_in, range_in, filter_in, number_in, is_true, is_true_in, text_or, needed_text, needed_id, needed_version, version_or, range_or, number_or, filter_if_there, truth_or, has};
 
 use crate::fault::InfRefusal;
 use crate::host::is_id;
 use crate::number::number_at_most;
 use crate::table::Table;
 use crate::value::Value;
+use ldap_filter::Filter;
 use osgi_version::{NoMemory, Range, Text, Twin, Version};
 
 /// The greatest number in a value.
@@ -23,7 +24,7 @@ impl Value {
     {
         match self {
             Value::Plain(text) => Some(text),
-            Value::Version(_) | Value::Range(_) => None,
+            Value::Version(_) | Value::Range(_) | Value::Filter(_) => None,
         }
     }
 
@@ -44,7 +45,7 @@ impl Value {
     {
         match self {
             Value::Version(Some(version)) => Some(version),
-            Value::Version(None) | Value::Plain(_) | Value::Range(_) => None,
+            Value::Version(None) | Value::Plain(_) | Value::Range(_) | Value::Filter(_) => None,
         }
     }
 
@@ -53,7 +54,16 @@ impl Value {
     {
         match self {
             Value::Range(Some(range)) => Some(range),
-            Value::Range(None) | Value::Plain(_) | Value::Version(_) => None,
+            Value::Range(None) | Value::Plain(_) | Value::Version(_) | Value::Filter(_) => None,
+        }
+    }
+
+    fn filter(&self) -> Option<&Filter>
+        ensures { option_map (λ f. f.now) result ≡ filter_in self.now }
+    {
+        match self {
+            Value::Filter(Some(filter)) => Some(filter),
+            Value::Filter(None) | Value::Plain(_) | Value::Version(_) | Value::Range(_) => None,
         }
     }
 
@@ -185,6 +195,19 @@ impl Table {
         };
         match value.number() {
             Some(number) => Ok(number),
+            None => Err(InfRefusal::BadValue(key)),
+        }
+    }
+    /// The filter, where the key has one.
+    #[tactic(auto, unfolding(crate::specs::Parts::filter_if_there))]
+    pub(crate) fn filter_if_there(&self, key: Text) -> Result<Option<Filter>, InfRefusal>
+        ensures { Gives (λ filter. filter) result (filter_if_there (at self.now) key) }
+    {
+        let Some(value) = self.get(&key) else {
+            return Ok(None);
+        };
+        match value.filter() {
+            Some(filter) => Ok(Some(filter.copy()?)),
             None => Err(InfRefusal::BadValue(key)),
         }
     }

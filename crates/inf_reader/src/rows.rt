@@ -10,7 +10,8 @@ ghost use Rattle.inf_reader.specs.UnitParts.{traverse, property_row, provided_ro
 use crate::class::Rows;
 use crate::fault::InfRefusal;
 use crate::fields::{
-    row_id, row_number_or, row_range_or, row_text, row_truth_or, row_version, row_version_or,
+    row_filter, row_id, row_number_or, row_range_or, row_text, row_truth_or, row_version,
+    row_version_or,
 };
 use crate::table::Table;
 use crate::unit_parts::zero_version;
@@ -172,6 +173,7 @@ fn required_row(alloc: Global, table: &Table, owner: u32, row: u32) -> Result<Re
     let name = row_text(alloc, table, owner, "requires", row, "name")?;
     let any = any_version(alloc)?;
     let range = row_range_or(alloc, table, owner, "requires", row, "range", any)?;
+    let filter = row_filter(alloc, table, owner, "requires", row, "filter")?;
     let min = row_number_or(alloc, table, owner, "requires", row, "min", 1)?;
     let max = row_number_or(alloc, table, owner, "requires", row, "max", GREATEST)?;
     let optional = row_truth_or(alloc, table, owner, "requires", row, "optional", false)?;
@@ -180,7 +182,7 @@ fn required_row(alloc: Global, table: &Table, owner: u32, row: u32) -> Result<Re
         namespace,
         name,
         range,
-        filter: None,
+        filter,
         min: least(optional, min),
         max,
         greedy,

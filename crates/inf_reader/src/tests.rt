@@ -1,11 +1,16 @@
 //! Whole descriptions, with the units or the refusals that were worked out by hand from the rules of the format.
 
+ghost use Rattle.std.specs.Prelude.{All, IfSome};
+ghost use Rattle.ldap_filter.specs.FilterText.{IsFilter};
+ghost use Rattle.inf_reader.specs.InForm.{IsRequiredInForm, IsUnitInForm};
+
 use crate::{InfRefusal, NameSet, units_of};
-use osgi_version::{List, NoMemory, Range, Text, Version, push_field, push_number};
+use ldap_filter::Filter;
+use osgi_version::{NoMemory, Range, Text, Version, push_field, push_number};
 use props_reader::read;
 use std::alloc::Global;
 use std::test::Fail;
-use unit_model::{Phase, Unit, UnitName};
+use unit_model::{Phase, Required, Unit, UnitName};
 
 fn push_word(line: &mut Vec<u8>, word: &str) -> Result<(), NoMemory> {
     line.extend_from_slice(word.as_bytes())?;
@@ -43,6 +48,17 @@ fn push_range(line: &mut Vec<u8>, range: &Range) -> Result<(), NoMemory> {
     Ok(())
 }
 
+/// The canonical text, where there is a filter.
+fn push_filter(line: &mut Vec<u8>, filter: &Option<Filter>) -> Result<(), NoMemory>
+    requires { IfSome filter.now IsFilter }
+{
+    if let Some(filter) = filter {
+        let text = filter.text(*line.allocator())?;
+        push_text(line, &text)?;
+    }
+    Ok(())
+}
+
 fn phase_name(phase: Phase) -> &'static str {
     match phase {
         Phase::Collect => "collect",
@@ -53,13 +69,16 @@ fn phase_name(phase: Phase) -> &'static str {
     }
 }
 
-fn push_head(line: &mut Vec<u8>, unit: &Unit) -> Result<(), NoMemory> {
+fn push_head(line: &mut Vec<u8>, unit: &Unit) -> Result<(), NoMemory>
+    requires { IsUnitInForm unit.now }
+{
     push_word(line, "unit")?;
     push_text(line, &unit.name.id)?;
     push_version(line, &unit.name.version)?;
     if unit.singleton {
         push_word(line, " singleton")?;
     }
+    push_filter(line, &unit.filter)?;
     push_word(line, "; update")?;
     push_text(line, &unit.update.id)?;
     push_range(line, &unit.update.range)?;
@@ -74,7 +93,24 @@ fn push_head(line: &mut Vec<u8>, unit: &Unit) -> Result<(), NoMemory> {
     Ok(())
 }
 
-fn push_rows(line: &mut Vec<u8>, unit: &Unit) -> Result<(), NoMemory> {
+fn push_required(line: &mut Vec<u8>, required: &Required) -> Result<(), NoMemory>
+    requires { IsRequiredInForm required.now }
+{
+    push_word(line, "; requires")?;
+    push_text(line, &required.namespace)?;
+    push_text(line, &required.name)?;
+    push_range(line, &required.range)?;
+    line.push(b' ')?;
+    push_number(line, required.min)?;
+    line.push(b' ')?;
+    push_number(line, required.max)?;
+    push_word(line, if required.greedy { " 1" } else { " 0" })?;
+    push_filter(line, &required.filter)
+}
+
+fn push_rows(line: &mut Vec<u8>, unit: &Unit) -> Result<(), NoMemory>
+    requires { IsUnitInForm unit.now }
+{
     for property in unit.properties.items() {
         push_word(line, "; property")?;
         push_text(line, &property.name)?;
@@ -87,15 +123,7 @@ fn push_rows(line: &mut Vec<u8>, unit: &Unit) -> Result<(), NoMemory> {
         push_version(line, &provided.version)?;
     }
     for required in unit.required.items() {
-        push_word(line, "; requires")?;
-        push_text(line, &required.namespace)?;
-        push_text(line, &required.name)?;
-        push_range(line, &required.range)?;
-        line.push(b' ')?;
-        push_number(line, required.min)?;
-        line.push(b' ')?;
-        push_number(line, required.max)?;
-        push_word(line, if required.greedy { " 1" } else { " 0" })?;
+        push_required(line, required)?;
     }
     Ok(())
 }
@@ -118,9 +146,11 @@ fn push_tail(line: &mut Vec<u8>, unit: &Unit) -> Result<(), NoMemory> {
 }
 
 /// A line for each unit.
-fn shown(alloc: Global, units: &List<Unit>) -> Result<Vec<u8>, NoMemory> {
+fn shown(alloc: Global, units: &[Unit]) -> Result<Vec<u8>, NoMemory>
+    requires { All IsUnitInForm units.now }
+{
     let mut line = Vec::new(alloc);
-    for unit in units.items() {
+    for unit in units {
         push_head(&mut line, unit)?;
         push_rows(&mut line, unit)?;
         push_tail(&mut line, unit)?;
@@ -168,10 +198,10 @@ fn refusal(alloc: Global, refusal: &InfRefusal) -> Result<Vec<u8>, NoMemory> {
 }
 
 /// What the description of a folder gives: its units, or its refusal.
-fn outcome(alloc: Global, folder: &str, text: &[u8]) -> Result<Vec<u8>, Fail> {
+pub(crate) fn outcome(alloc: Global, folder: &str, text: &[u8]) -> Result<Vec<u8>, Fail> {
     let pairs = read(alloc, text)?;
     match units_of(alloc, folder.as_bytes(), &pairs) {
-        Ok(units) => Ok(shown(alloc, &units)?),
+        Ok(units) => Ok(shown(alloc, units.items())?),
         Err(refused) => Ok(refusal(alloc, &refused)?),
     }
 }
@@ -292,12 +322,8 @@ fn refuses_descriptions(rt: HostRuntime) -> Result<(), Fail> {
             "left out units.3.requires.4.matchExp",
         ),
         ("f", b"update.matchExp=a", "left out update.matchExp"),
-        ("f", b"units.3.filter=(a=b)", "left out units.3.filter"),
-        (
-            "f",
-            b"requires.0.filter=(a=b)",
-            "left out requires.0.filter",
-        ),
+        ("h_1.0.0", b"filter=(a=b)", "unknown filter"),
+        ("f", b"requires.0.filter=(a=b)", "no host requires.0.filter"),
         ("f", b"provides.0.name=a", "no host provides.0.name"),
         ("f", b"copyright=a $qualifier$", "no host copyright"),
         ("_1.0.0", b"update.severity=1", "no host update.severity"),

@@ -10,7 +10,7 @@ ghost use Rattle.inf_reader.specs.UnitsOf.{unit_of, units_from, units_of};
 
 use crate::entries::entries_of;
 use crate::fault::InfRefusal;
-use crate::fields::part_truth_or;
+use crate::fields::{part_filter, part_truth_or};
 use crate::host::host_of;
 use crate::names::NameSet;
 use crate::rows::{artifacts_of, properties_of, provided_of, required_of};
@@ -33,6 +33,7 @@ fn unit_of(
 {
     let name = name_of(alloc, host, table, owner)?;
     let singleton = part_truth_or(alloc, table, owner, "singleton", false)?;
+    let filter = part_filter(alloc, table, owner, "filter")?;
     let update = update_of(alloc, table, owner, &name)?;
     let touchpoint = touchpoint_of(alloc, table, owner)?;
     let properties = properties_of(alloc, table, owner)?;
@@ -43,7 +44,7 @@ fn unit_of(
     Ok(Unit {
         name,
         singleton,
-        filter: None,
+        filter,
         update,
         touchpoint,
         properties,

@@ -3,11 +3,14 @@
 ghost use Rattle.std.specs.Prelude.{◌≡◌, IfOk, IfSome, Option};
 ghost use Rattle.osgi_version.specs.VersionText.{DenotesVersion, IsVersion};
 ghost use Rattle.osgi_version.specs.RangeText.{DenotesRange};
+ghost use Rattle.ldap_filter.specs.FilterText.{DenotesFilter};
+ghost use Rattle.ldap_filter.specs.declared.filter.Filter.{Filter};
 ghost use Rattle.osgi_version.specs.declared.version.Version.{Version};
 ghost use Rattle.osgi_version.specs.declared.range.Range.{Range};
 ghost use Rattle.inf_reader.specs.Readings.{Readings, ReadsAll, Reads, value_of};
 
 use crate::class::Class;
+use ldap_filter::{Filter, FilterFault};
 use osgi_version::{NoMemory, Range, Text, Version, VersionFault};
 use std::alloc::Global;
 
@@ -17,6 +20,7 @@ pub(crate) enum Value {
     Plain(Text),
     Version(Option<Version>),
     Range(Option<Range>),
+    Filter(Option<Filter>),
 }
 
 /// The version that the text denotes, if it denotes one.
@@ -44,6 +48,17 @@ fn range_of(alloc: Global, text: &[u8]) -> Result<Option<Range>, NoMemory>
     }
 }
 
+/// The filter that the text denotes, if it denotes one.
+fn filter_of(alloc: Global, text: &Text) -> Result<Option<Filter>, NoMemory>
+    ensures { IfOk result (λ found. (other : Option Filter) → Reads DenotesFilter text.now other → found ≡ other) }
+{
+    match Filter::parse(alloc, text.bytes()) {
+        Ok(filter) => Ok(Some(filter)),
+        Err(FilterFault::NoMemory) => Err(NoMemory),
+        Err(FilterFault::Bad { .. }) => Ok(None),
+    }
+}
+
 /// The value of a key of this class.
 pub(crate) fn value_of(alloc: Global, class: Class, text: Text) -> Result<Value, NoMemory>
     ensures { IfOk result (λ value. (read : Readings) → ReadsAll read → value ≡ value_of read class text) }
@@ -51,6 +66,7 @@ pub(crate) fn value_of(alloc: Global, class: Class, text: Text) -> Result<Value,
     match class {
         Class::Version => Ok(Value::Version(version_of(alloc, text.bytes())?)),
         Class::Range => Ok(Value::Range(range_of(alloc, text.bytes())?)),
+        Class::Filter => Ok(Value::Filter(filter_of(alloc, &text)?)),
         _ => Ok(Value::Plain(text)),
     }
 }

@@ -1,4 +1,11 @@
+pub mod ColonLaws
+pub mod Few
+pub mod FieldLaws
+pub mod FormLaws
 pub mod LineLaws
+pub mod OriginLaws
+pub mod ReadingLaws
 pub mod Soundness
 pub mod TrailLaws
 pub mod UsedLaws
+pub mod WordLaws

@@ -2,12 +2,19 @@
 #![tactic(auto)]
 
 mod checker;
+mod colon;
 mod derivation;
+mod field_reader;
 mod hints;
 pub mod laws;
 mod lines;
+mod numbers;
+mod origin_reader;
 mod scratch;
+mod stop;
+mod term_reader;
 mod usage;
+mod words;
 
 pub use checker::check;
 pub use derivation::{CheckFault, Derivation, Evidence, Line, Verdict, Why};

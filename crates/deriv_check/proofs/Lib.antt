@@ -3,6 +3,7 @@ pub mod Few
 pub mod FieldLaws
 pub mod FormLaws
 pub mod LineLaws
+pub mod NormalityLaws
 pub mod OriginLaws
 pub mod ReadingLaws
 pub mod Soundness

@@ -1,25 +1,17 @@
 -- What a constraint stands for, as it is read.
-use Rattle.std.proofs.Common.{◌≡◌, ℕ, ◌+◌, ◌-◌, ◌<◌, arith, Bool, List, [], ◌∷◌, ◌++◌, length, drop, get_or, Option, Some, None, option_map, refl, sym, ap, subst, ◌∙◌, codes}
+use Rattle.std.proofs.Common.{◌≡◌, ℕ, ◌+◌, ◌-◌, ◌<◌, arith, Bool, true, List, [], ◌∷◌, ◌++◌, length, drop, get_or, Option, Some, None, option_map, refl, sym, ap, subst, ◌∙◌, codes}
 use Rattle.std.specs.Str.{IsUtf8}
+use Rattle.std.proofs.lemmas.List.{get_or_default}
 use Rattle.osgi_version.specs.Field.{field}
 use Rattle.pb_core.specs.declared.constraint.Origin.{Origin}
 use Rattle.pb_core.specs.declared.constraint.Origin.TheVariants as origin
 use Rattle.pb_core.specs.declared.literal.Term.{Term}
-use Rattle.deriv_check.specs.Colon.{NoColon, ArePair}
+use Rattle.deriv_check.specs.Colon.{is_no_colon, NoColon, ArePair}
 use Rattle.deriv_check.specs.EvidenceForm.{IsOriginOver, label_at}
 use Rattle.deriv_check.specs.EvidenceText.{origin_word, pair_word}
 use Rattle.deriv_check.specs.Reading.{Reading}
+use Rattle.deriv_check.proofs.Few.{all_three, all_four}
 use Rattle.deriv_check.proofs.ColonLaws.{no_colon_within, cut_same}
-
--- the kind of an origin, before the colon
-abbrev kind_of : List Term → Origin → List ℕ
-kind_of terms (origin.Root label) = codes "root"
-kind_of terms (origin.Need variable row) = codes "need"
-kind_of terms (origin.Most variable row) = codes "most"
-kind_of terms (origin.One id) = codes "one"
-
-head : List ℕ → ℕ
-head l = get_or l 0 0
 
 other_heads : (a b : List ℕ) → a ≡ b → get_or a 0 0 ≡ get_or b 0 0
 other_heads a b e = ap (λ l. get_or l 0 0) e
@@ -55,6 +47,17 @@ pub root_of_one : (labels : List (List ℕ)) (terms : List Term) (t : Term) (wor
 root_of_one labels terms t word label one is same utf8 =
     subst (λ (ts : List Term). Reading (IsOriginOver labels ts) (origin_word ts) word (Some (origin.Root label))) (sym one)
     ((same, utf8), is, root_only labels t word label is same)
+
+one_term : (terms : List Term) (d : Term) → length terms ≡ 1 → terms ≡ get_or terms 0 d ∷ []
+one_term [] d n = absurd (omega arith)
+one_term (t ∷ []) d n = refl
+one_term (t ∷ u ∷ terms) d n = absurd (omega arith)
+
+pub root_of_label : (labels : List (List ℕ)) (terms : List Term) (d : Term) (word label : List ℕ) → length terms ≡ 1 → word ≡ codes "root"
+    → label ≡ get_or labels ((get_or terms 0 d).lit.variable - 1) label → (get_or terms 0 d).lit.variable - 1 < length labels → IsUtf8 label
+    → Reading (IsOriginOver labels terms) (origin_word terms) word (Some (origin.Root label))
+root_of_label labels terms d word label n is at within utf8 =
+    root_of_one labels terms (get_or terms 0 d) word label (one_term terms d n) is (at ∙ get_or_default labels _ label [] within) utf8
 
 -- `root:LABEL`
 root_rest : (labels : List (List ℕ)) (rest : List ℕ) (x : Origin) → IsOriginOver labels [] x → codes "root" ++ 58 ∷ rest ≡ origin_word [] x
@@ -148,8 +151,29 @@ pub most_read : (labels : List (List ℕ)) (terms : List Term) (word kind rest :
 most_read labels terms word kind rest found is same r =
     subst (λ (w : List ℕ). Reading (IsOriginOver labels terms) (origin_word terms) w (option_map most found)) (sym (is ∙ ap (λ k. k ++ 58 ∷ rest) same)) (most_cut labels terms rest found r)
 
+plain_root : NoColon (codes "root")
+plain_root = all_four (λ b. is_no_colon b ≡ true) 114 111 111 116 refl refl refl refl
+
+plain_need : NoColon (codes "need")
+plain_need = all_four (λ b. is_no_colon b ≡ true) 110 101 101 100 refl refl refl refl
+
+plain_most : NoColon (codes "most")
+plain_most = all_four (λ b. is_no_colon b ≡ true) 109 111 115 116 refl refl refl refl
+
+plain_one : NoColon (codes "one")
+plain_one = all_three (λ b. is_no_colon b ≡ true) 111 110 101 refl refl refl
+
 -- any other word
 pub other_read : (labels : List (List ℕ)) (terms : List Term) (word kind rest : List ℕ) → NoColon kind → word ≡ kind ++ 58 ∷ rest
     → (kind ≡ codes "root" → terms ≡ [] → ⊥) → (kind ≡ codes "one" → ⊥) → (kind ≡ codes "need" → ⊥) → (kind ≡ codes "most" → ⊥)
     → Reading (IsOriginOver labels terms) (origin_word terms) word None
-other_read labels terms word kind rest p is = ?
+other_read labels [] word kind rest p is root one need most (origin.Root label) valid e =
+    root (cut_same kind (codes "root") rest (field label) p plain_root (sym is ∙ e)).0 refl
+other_read labels (t ∷ terms) word kind rest p is root one need most (origin.Root label) valid e =
+    no_colon_within (codes "root") kind rest plain_root (sym e ∙ is)
+other_read labels terms word kind rest p is root one need most (origin.Need variable row) valid e =
+    need (cut_same kind (codes "need") rest (pair_word variable row) p plain_need (sym is ∙ e)).0
+other_read labels terms word kind rest p is root one need most (origin.Most variable row) valid e =
+    most (cut_same kind (codes "most") rest (pair_word variable row) p plain_most (sym is ∙ e)).0
+other_read labels terms word kind rest p is root one need most (origin.One id) valid e =
+    one (cut_same kind (codes "one") rest (field id) p plain_one (sym is ∙ e)).0

@@ -3,11 +3,13 @@
 
 mod checker;
 mod colon;
+mod constraint_reader;
 mod derivation;
 mod field_reader;
 mod hints;
 pub mod laws;
 mod lines;
+mod normality;
 mod numbers;
 mod origin_reader;
 mod scratch;

@@ -61,10 +61,11 @@ fn read_root(labels: &[Text], terms: &[Term], word: &[u8]) -> Result<Option<Orig
     if word != b"root".as_slice() {
         return Ok(None);
     }
-    let [term] = terms else {
+    if terms.len() != 1 {
         return Ok(None);
-    };
-    let label = copy_text(&labels[term.lit.variable as usize - 1])?;
+    }
+    let variable = terms[0].lit.variable;
+    let label = copy_text(&labels[variable as usize - 1])?;
     Ok(Some(Origin::Root(label)))
 }
 

@@ -1,4 +1,5 @@
 pub mod ColonLaws
+pub mod ConstraintLaws
 pub mod Few
 pub mod FieldLaws
 pub mod FormLaws
@@ -6,6 +7,7 @@ pub mod LineLaws
 pub mod NormalityLaws
 pub mod OriginLaws
 pub mod ReadingLaws
+pub mod SolidLaws
 pub mod Soundness
 pub mod TrailLaws
 pub mod UsedLaws

@@ -1,5 +1,5 @@
 -- Facts on readers of words and of lines.
-use Rattle.std.proofs.Common.{◌≡◌, ℕ, ◌+◌, ◌-◌, ◌<◌, ◌≤◌, ◌⊎◌, inl, inr, min, arith, suc, zero, List, [], ◌∷◌, ◌++◌, length, take, drop, map, replicate, get_or, Option, Some, None, refl, sym, ap, subst, ◌∙◌, append_assoc, All, Bor}
+use Rattle.std.proofs.Common.{◌≡◌, ℕ, ◌+◌, ◌-◌, ◌<◌, ◌≤◌, ◌⊎◌, inl, inr, min, arith, suc, zero, List, [], ◌∷◌, ◌++◌, length, take, drop, map, replicate, get_or, Option, Some, None, Result, Ok, Err, IfOk, refl, sym, ap, subst, ◌∙◌, append_assoc, All, Bor}
 use Rattle.std.proofs.lemmas.List.{append-nil, append_cancel_left, map-append, length-map, length-append, length-take, length-take-le, length-replicate, take-append-drop, take-append-le, take-take, take_all, take_more, take_at, drop_at, get_or-take, get_or-map, get_or_append_left, length_push, map_push, same_from_push}
 use Rattle.std.proofs.lemmas.List.Elements.{All-nil, All-push, All-pop, All-append, All-replicate, All-get_or}
 use Rattle.deriv_check.specs.Reading.{Reading, seen, IsFront, BeginsLines, Begun, Stops, IsListOf, IsPairOf, pair_lines}
@@ -98,3 +98,47 @@ seen_end {X} Valid spell words i found h k so = record {
   only = so.only;
   stops = λ lt x d valid e. absurd (omega (arith, so.number, length-seen words));
 }
+
+-- words that aren't all read are spelled by no values
+pub front_short : {X : Type 0} (Valid : X → Type 0) (spell : X → List ℕ) (words : List (Bor (List ℕ))) (found : List X) → IsFront Valid spell (seen words) found → length found < length words
+    → (xs : List X) → All Valid xs → seen words ≡ map spell xs → ⊥
+front_short {X} Valid spell words found front h [] all e = let n = ap length e in omega (arith, n, length-seen words)
+front_short {X} Valid spell words found front h (x ∷ xs) all e =
+    let n = ap length e in
+    let long : length found < length (x ∷ xs) = omega (arith, n, length-seen words, length-map (x ∷ xs) spell) in
+    front.stops (omega (arith, length-seen words)) (get_or (x ∷ xs) (length found) x) [] (All-get_or Valid (x ∷ xs) (length found) x long all)
+    (ap (λ (l : List (List ℕ)). get_or l (length found) []) e ∙ get_or-map spell (x ∷ xs) (length found) x [] long)
+
+-- where all are read, they are spelled by these values alone
+pub front_whole : {X : Type 0} (Valid : X → Type 0) (spell : X → List ℕ) (words : List (Bor (List ℕ))) (found : List X) → IsFront Valid spell (seen words) found → length words ≤ length found
+    → seen words ≡ map spell found
+front_whole Valid spell words found front h = sym (take_all (length found) (seen words) (omega (arith, length-seen words))) ∙ front.spelled
+
+-- the first of some words
+pub seen_three : (words : List (Bor (List ℕ))) → 3 ≤ length words
+    → seen words ≡ (get_or words 0 no_word).now ∷ (get_or words 1 no_word).now ∷ (get_or words 2 no_word).now ∷ seen (drop 3 words)
+seen_three [] h = absurd (omega arith)
+seen_three (a ∷ []) h = absurd (omega arith)
+seen_three (a ∷ b ∷ []) h = absurd (omega arith)
+seen_three (a ∷ b ∷ d ∷ words) h = refl
+
+pub seen_two : (words : List (Bor (List ℕ))) → length words ≡ 2 → seen words ≡ (get_or words 0 no_word).now ∷ (get_or words 1 no_word).now ∷ []
+seen_two [] h = absurd (omega arith)
+seen_two (a ∷ []) h = absurd (omega arith)
+seen_two (a ∷ b ∷ []) h = refl
+seen_two (a ∷ b ∷ d ∷ words) h = absurd (omega arith)
+
+pub seen_first : (words : List (Bor (List ℕ))) → 1 ≤ length words → seen words ≡ (get_or words 0 no_word).now ∷ seen (drop 1 words)
+seen_first [] h = absurd (omega arith)
+seen_first (a ∷ words) h = refl
+
+-- a first word that is always the same
+pub reading_behind : {X : Type 0} (Valid : X → Type 0) (parts : X → List (List ℕ)) (mark : List ℕ) (words rest : List (List ℕ)) (found : Option X)
+    → words ≡ mark ∷ rest → Reading Valid parts rest found → Reading Valid (λ x. mark ∷ parts x) words found
+reading_behind Valid parts mark words rest None is r = λ x valid e. let same : rest ≡ parts x = cc in r x valid same
+reading_behind Valid parts mark words rest (Some y) is r = (r.0, is ∙ ap (λ l. mark ∷ l) r.1, λ x valid e. let same : rest ≡ parts x = cc in r.2 x valid same)
+
+pub reading_behind_read : {X E : Type 0} (Valid : X → Type 0) (parts : X → List (List ℕ)) (mark : List ℕ) (words rest : List (List ℕ)) (read : Result (Option X) E)
+    → words ≡ mark ∷ rest → IfOk read (Reading Valid parts rest) → IfOk read (Reading Valid (λ x. mark ∷ parts x) words)
+reading_behind_read Valid parts mark words rest (Ok found) is r = reading_behind Valid parts mark words rest found is r
+reading_behind_read Valid parts mark words rest (Err e) is r = tt

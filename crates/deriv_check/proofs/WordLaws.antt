@@ -1,5 +1,5 @@
 -- Facts on words and on lines of words.
-use Rattle.std.proofs.Common.{◌≡◌, ◌≢◌, ℕ, ◌+◌, ◌-◌, ◌/◌, ◌%◌, ◌<◌, ◌≤◌, ◌^◌, ◌==◌, not, nat_lt, nat_le, arith, suc, zero, Bool, true, false, List, [], ◌∷◌, ◌++◌, length, take, drop, map, get_or, Option, Some, None, refl, sym, ap, subst, ◌∙◌, append_assoc, All, codes}
+use Rattle.std.proofs.Common.{◌≡◌, ◌≢◌, ℕ, ◌+◌, ◌-◌, ◌/◌, ◌%◌, ◌<◌, ◌≤◌, ◌^◌, ◌==◌, not, nat_lt, nat_le, arith, suc, zero, Bool, true, false, List, [], ◌∷◌, ◌++◌, length, take, drop, map, get_or, Option, Some, None, Result, Ok, Err, IfOk, refl, sym, ap, subst, ◌∙◌, append_assoc, All, codes}
 use Rattle.std.specs.List.{flat_map, slice_split, join_with_byte}
 use Rattle.std.specs.Fmt.{decimal}
 use Rattle.std.proofs.lemmas.Bool.Decides.{nat_tests}
@@ -131,3 +131,9 @@ pub spaced_line : (words : List (List ℕ)) → AreWords words → IsOneLine (sp
 spaced_line words h =
     subst (λ (ws : List (List ℕ)). IsOneLine (spaced ws)) (sym h.are)
     (All-append (λ b. 10 < b) h.first (flat_map (λ w. 32 ∷ w) h.others) (solid_line h.first h.solid_first) (one_tail h.others h.solid_others))
+
+pub reading_line : {X E : Type 0} (Valid : X → Type 0) (words : X → List (List ℕ)) (line : List ℕ) (found : List (List ℕ)) (read : Result (Option X) E)
+    → found ≡ slice_split (λ b. b == 32) line → ((x : X) → Valid x → AreWords (words x))
+    → IfOk read (Reading Valid words found) → IfOk read (Reading Valid (λ x. spaced (words x)) line)
+reading_line {X} Valid words line found (Ok r) e solid h = reading_spaced Valid words line r solid (subst (λ (ws : List (List ℕ)). Reading Valid words ws r) e h)
+reading_line Valid words line found (Err f) e solid h = tt

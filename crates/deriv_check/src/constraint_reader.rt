@@ -1,6 +1,5 @@
-ghost use Rattle.std.specs.Prelude.{◌∷◌, IfOk};
-ghost use Rattle.std.specs.List.{slice_split};
-ghost use Rattle.deriv_check.specs.EvidenceForm.{IsConstraintOver};
+ghost use Rattle.std.specs.Prelude.{◌∷◌, length, IfOk};
+ghost use Rattle.deriv_check.specs.EvidenceForm.{IsCount, IsConstraintOver};
 ghost use Rattle.deriv_check.specs.EvidenceText.{constraint_line, constraint_words};
 ghost use Rattle.deriv_check.specs.Terms.{constraint_parts};
 ghost use Rattle.deriv_check.specs.Reading.{Reading, IsFront, seen};
@@ -20,6 +19,7 @@ pub(crate) fn front_constraints(
     labels: &[Text],
     lines: &[&[u8]],
 ) -> Result<List<Constraint>, NoMemory>
+    requires { IsCount (length labels.now) }
     ensures { IfOk result (IsFront (IsConstraintOver labels.now) constraint_line (seen lines.now)) }
 {
     let mut found = List::new(alloc);
@@ -37,6 +37,7 @@ fn read_constraint(
     labels: &[Text],
     line: &[u8],
 ) -> Result<Option<Constraint>, NoMemory>
+    requires { IsCount (length labels.now) }
     ensures { IfOk result (Reading (IsConstraintOver labels.now) constraint_line line.now) }
 {
     let words = words(alloc, line)?;
@@ -48,9 +49,13 @@ fn read_words(
     labels: &[Text],
     words: &[&[u8]],
 ) -> Result<Option<Constraint>, NoMemory>
+    requires { IsCount (length labels.now) }
     ensures { IfOk result (Reading (IsConstraintOver labels.now) constraint_words (seen words.now)) }
 {
-    if words.len() < 3 || words[0] != b"c".as_slice() {
+    if words.len() < 3 {
+        return Ok(None);
+    }
+    if words[0] != b"c".as_slice() {
         return Ok(None);
     }
     read_parts(alloc, labels, words[1], words[2], &words[3..])
@@ -64,13 +69,17 @@ fn read_parts(
     degree: &[u8],
     terms: &[&[u8]],
 ) -> Result<Option<Constraint>, NoMemory>
+    requires { IsCount (length labels.now) }
     ensures { IfOk result (Reading (IsConstraintOver labels.now) constraint_parts (origin.now ∷ degree.now ∷ seen terms.now)) }
 {
     let Some(number) = read_number(alloc, degree)? else {
         return Ok(None);
     };
     let found = front_terms(alloc, terms)?;
-    if found.len() < terms.len() || !is_normal(found.items(), number, labels.len()) {
+    if found.len() < terms.len() {
+        return Ok(None);
+    }
+    if !is_normal(found.items(), number, labels.len()) {
         return Ok(None);
     }
     let Some(origin) = read_origin(alloc, labels, found.items(), origin)? else {

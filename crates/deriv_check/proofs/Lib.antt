@@ -1,9 +1,11 @@
 pub mod ColonLaws
 pub mod ConstraintLaws
+pub mod DerivedLaws
 pub mod Few
 pub mod FieldLaws
 pub mod FormLaws
 pub mod LineLaws
+pub mod LineWords
 pub mod NormalityLaws
 pub mod OriginLaws
 pub mod ReadingLaws

@@ -1,7 +1,9 @@
 -- Facts on readers of words and of lines.
-use Rattle.std.proofs.Common.{◌≡◌, ℕ, ◌+◌, ◌-◌, ◌<◌, ◌≤◌, ◌⊎◌, inl, inr, min, arith, suc, zero, List, [], ◌∷◌, ◌++◌, length, take, drop, map, replicate, get_or, Option, Some, None, Result, Ok, Err, IfOk, refl, sym, ap, subst, ◌∙◌, append_assoc, All, Bor}
+use Rattle.std.proofs.Common.{◌≡◌, Bool, true, false, not, ℕ, ◌+◌, ◌-◌, ◌<◌, ◌≤◌, ◌⊎◌, inl, inr, min, arith, suc, zero, List, [], ◌∷◌, ◌++◌, length, take, drop, map, replicate, get_or, Option, Some, None, Result, Ok, Err, IfOk, refl, sym, ap, subst, ◌∙◌, append_assoc, All, Bor}
 use Rattle.std.proofs.lemmas.List.{append-nil, append_cancel_left, map-append, length-map, length-append, length-take, length-take-le, length-replicate, take-append-drop, take-append-le, take-take, take_all, take_more, take_at, drop_at, get_or-take, get_or-map, get_or_append_left, length_push, map_push, same_from_push}
 use Rattle.std.proofs.lemmas.List.Elements.{All-nil, All-push, All-pop, All-append, All-replicate, All-get_or}
+use Rattle.std.specs.Str.{bytes_eq}
+use Rattle.std.proofs.lemmas.Slice.Eq.{bytes_eq-Decides}
 use Rattle.deriv_check.specs.Reading.{Reading, seen, IsFront, BeginsLines, Begun, Stops, IsListOf, IsPairOf, pair_lines}
 
 -- the values of the first words or lines
@@ -142,3 +144,26 @@ pub reading_behind_read : {X E : Type 0} (Valid : X → Type 0) (parts : X → L
     → words ≡ mark ∷ rest → IfOk read (Reading Valid parts rest) → IfOk read (Reading Valid (λ x. mark ∷ parts x) words)
 reading_behind_read Valid parts mark words rest (Ok found) is r = reading_behind Valid parts mark words rest found is r
 reading_behind_read Valid parts mark words rest (Err e) is r = tt
+
+-- a mark and one word
+one_word : {X : Type 0} (Valid : X → Type 0) (spell : X → List ℕ) (mark w : List ℕ) (words : List (List ℕ)) (found : Option X)
+    → words ≡ mark ∷ w ∷ [] → Reading Valid spell w found → Reading Valid (λ x. mark ∷ spell x ∷ []) words found
+one_word Valid spell mark w words None is r = λ x valid e. let same : w ≡ spell x = cc in r x valid same
+one_word Valid spell mark w words (Some y) is r =
+    (r.0, is ∙ ap (λ (v : List ℕ). mark ∷ v ∷ []) r.1, λ x valid e. let same : w ≡ spell x = cc in r.2 x valid same)
+
+pub one_word_read : {X E : Type 0} (Valid : X → Type 0) (spell : X → List ℕ) (mark w : List ℕ) (words : List (List ℕ)) (read : Result (Option X) E)
+    → words ≡ mark ∷ w ∷ [] → IfOk read (Reading Valid spell w) → IfOk read (Reading Valid (λ x. mark ∷ spell x ∷ []) words)
+one_word_read Valid spell mark w words (Ok found) is r = one_word Valid spell mark w words found is r
+one_word_read Valid spell mark w words (Err e) is r = tt
+
+-- a byte string as a test
+pub same_bytes : (a b : List ℕ) → not (bytes_eq a b) ≡ false → a ≡ b
+same_bytes a b eq = (bytes_eq-Decides a b).0 (negated (bytes_eq a b) eq)
+  where
+    negated : (t : Bool) → not t ≡ false → t ≡ true
+    negated true h = refl
+    negated false h = cc
+
+pub differ : (a b : List ℕ) → not (bytes_eq a b) ≡ true → a ≡ b → ⊥
+differ a b ne e = let same : bytes_eq a b ≡ true = (bytes_eq-Decides a b).1 e in cc

@@ -8,6 +8,7 @@ mod derivation;
 mod field_reader;
 mod hints;
 pub mod laws;
+mod line_reader;
 mod lines;
 mod normality;
 mod numbers;

@@ -11,7 +11,7 @@ use Rattle.deriv_check.specs.EvidenceText.{origin_word, term_word, constraint_wo
 use Rattle.std.proofs.lemmas.List.Elements.{All-cons, All-map, All-weaker}
 use Rattle.deriv_check.proofs.Few.{all_one}
 use Rattle.deriv_check.proofs.SolidLaws.{solid_origin, solid_term}
-use Rattle.deriv_check.proofs.WordLaws.{IsSolid, AreWords, are_words, decimal_solid}
+use Rattle.deriv_check.proofs.WordLaws.{IsAbove, IsSolid, AreWords, are_words, decimal_solid}
 use Rattle.deriv_check.specs.Reading.{Reading, IsFront, seen}
 use Rattle.deriv_check.specs.Terms.{IsTerm, constraint_of, constraint_parts}
 use Rattle.deriv_check.proofs.ReadingLaws.{front_short, front_whole, length-seen}
@@ -96,7 +96,7 @@ constraint_found labels origin degree terms found number o few r front h normal 
 -- the words of each constraint are words
 pub constraint_are_words : (labels : List (List ℕ)) → IsCount (length labels) → (x : Constraint) → IsConstraintOver labels x → AreWords (constraint_words x)
 constraint_are_words labels few x valid =
-    are_words (codes "c") (constraint_parts x) (all_one (λ b. 32 < b) 99 (omega arith))
+    are_words (codes "c") (constraint_parts x) (all_one IsAbove 99 (omega arith, omega arith))
     (All-cons IsSolid (origin_word x.terms x.origin) (decimal x.degree ∷ map term_word x.terms) (solid_origin x.terms x.origin valid.origin.1)
     (All-cons IsSolid (decimal x.degree) (map term_word x.terms) (decimal_solid x.degree (omega (arith, valid.normal.normal.small_degree)))
     (All-map IsSolid term_word x.terms (All-weaker IsTerm (λ t. IsSolid (term_word t)) solid_term x.terms (terms_of labels x few valid)))))

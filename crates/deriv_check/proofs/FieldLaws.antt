@@ -102,7 +102,7 @@ chars_bytes (c ∷ cs) h =
     let parts = both_true (scalar c) (scalars cs) h in
     All-append IsByte (encode c) (encodes cs) (char_bytes c (small_scalar c parts.0)) (chars_bytes cs parts.1)
 
-text_bytes : (bytes : List ℕ) → IsUtf8 bytes → All IsByte bytes
+pub text_bytes : (bytes : List ℕ) → IsUtf8 bytes → All (λ b. b < 2 ^ 8) bytes
 text_bytes bytes h = All-same IsByte bytes (encodes h.0) (sym h.1.1) (chars_bytes h.0 h.1.0)
 
 -- no field but that of the empty text is `%-`

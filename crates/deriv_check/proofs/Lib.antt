@@ -1,6 +1,7 @@
 pub mod ColonLaws
 pub mod ConstraintLaws
 pub mod DerivedLaws
+pub mod EvidenceLaws
 pub mod Few
 pub mod FieldLaws
 pub mod FormLaws
@@ -9,6 +10,7 @@ pub mod LineWords
 pub mod NormalityLaws
 pub mod OriginLaws
 pub mod ReadingLaws
+pub mod SkipLaws
 pub mod SolidLaws
 pub mod Soundness
 pub mod TrailLaws

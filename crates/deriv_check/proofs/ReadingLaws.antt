@@ -1,8 +1,9 @@
 -- Facts on readers of words and of lines.
-use Rattle.std.proofs.Common.{◌≡◌, Bool, true, false, not, ℕ, ◌+◌, ◌-◌, ◌<◌, ◌≤◌, ◌⊎◌, inl, inr, min, arith, suc, zero, List, [], ◌∷◌, ◌++◌, length, take, drop, map, replicate, get_or, Option, Some, None, Result, Ok, Err, IfOk, refl, sym, ap, subst, ◌∙◌, append_assoc, All, Bor}
+use Rattle.std.proofs.Common.{◌≡◌, ◌==◌, Bool, true, false, not, ℕ, ◌+◌, ◌-◌, ◌<◌, ◌≤◌, ◌⊎◌, inl, inr, min, arith, suc, zero, List, [], ◌∷◌, ◌++◌, length, take, drop, map, replicate, get_or, Option, Some, None, Result, Ok, Err, IfOk, refl, sym, ap, subst, ◌∙◌, append_assoc, All, Bor}
 use Rattle.std.proofs.lemmas.List.{append-nil, append_cancel_left, map-append, length-map, length-append, length-take, length-take-le, length-replicate, take-append-drop, take-append-le, take-take, take_all, take_more, take_at, drop_at, get_or-take, get_or-map, get_or_append_left, length_push, map_push, same_from_push}
 use Rattle.std.proofs.lemmas.List.Elements.{All-nil, All-push, All-pop, All-append, All-replicate, All-get_or}
 use Rattle.std.specs.Str.{bytes_eq}
+use Rattle.std.proofs.lemmas.Bool.Decides.{nat_tests}
 use Rattle.std.proofs.lemmas.Slice.Eq.{bytes_eq-Decides}
 use Rattle.deriv_check.specs.Reading.{Reading, seen, IsFront, BeginsLines, Begun, Stops, IsListOf, IsPairOf, pair_lines}
 
@@ -167,3 +168,9 @@ same_bytes a b eq = (bytes_eq-Decides a b).0 (negated (bytes_eq a b) eq)
 
 pub differ : (a b : List ℕ) → not (bytes_eq a b) ≡ true → a ≡ b → ⊥
 differ a b ne e = let same : bytes_eq a b ≡ true = (bytes_eq-Decides a b).1 e in cc
+
+pub no_length : (n : ℕ) → (n == 0) ≡ true → n ≡ 0
+no_length n h = grind (arith, nat_tests)
+
+pub some_length : (n : ℕ) → (n == 0) ≡ false → 1 ≤ n
+some_length n h = grind (arith, nat_tests)

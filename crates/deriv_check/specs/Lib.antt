@@ -1,6 +1,7 @@
 pub mod Answers
 pub mod Colon
 pub mod Database
+pub mod EvidenceAnswers
 pub mod EvidenceForm
 pub mod EvidenceText
 pub mod HintRule

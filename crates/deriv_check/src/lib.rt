@@ -5,6 +5,7 @@ mod checker;
 mod colon;
 mod constraint_reader;
 mod derivation;
+mod evidence_reader;
 mod field_reader;
 mod hints;
 pub mod laws;
@@ -21,6 +22,7 @@ mod words;
 
 pub use checker::check;
 pub use derivation::{CheckFault, Derivation, Evidence, Line, Verdict, Why};
+pub use evidence_reader::read_evidence;
 pub use usage::used;
 
 #[cfg(test)]

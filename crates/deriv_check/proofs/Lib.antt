@@ -16,3 +16,4 @@ pub mod Soundness
 pub mod TrailLaws
 pub mod UsedLaws
 pub mod WordLaws
+pub mod WritingLaws

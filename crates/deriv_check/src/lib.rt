@@ -29,4 +29,6 @@ pub use evidence_writer::write_evidence;
 pub use usage::used;
 
 #[cfg(test)]
+mod evidence_tests;
+#[cfg(test)]
 mod tests;

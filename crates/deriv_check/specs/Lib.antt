@@ -1,9 +1,16 @@
 pub mod Answers
+pub mod Colon
 pub mod Database
+pub mod EvidenceAnswers
+pub mod EvidenceForm
+pub mod EvidenceText
 pub mod HintRule
 pub mod LineRule
 pub mod Marks
+pub mod Reading
 pub mod Sound
+pub mod Terms
 pub mod Trail
+pub mod Unescaped
 pub mod Used
 pub mod Verdict

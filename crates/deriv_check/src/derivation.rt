@@ -38,7 +38,7 @@ pub enum Verdict {
 /// Why a line doesn't check.
 #[derive(Clone, Copy, Debug, PartialEq, Eq)]
 pub enum Why {
-    /// It has no place in an evidence text.
+    /// No text of an evidence begins with the lines up to it. `read_evidence` alone answers this.
     Text,
     /// A literal's variable is none of the problem's, or stands twice.
     Literal,

@@ -1,0 +1,13 @@
+use Rattle.std.proofs.Common.{◌≡◌, ℕ, List, [], ◌∷◌, sym, ap, ◌∙◌, arith, get_or, codes}
+use Rattle.deriv_check.specs.EvidenceForm.{IsCount}
+use Rattle.std.specs.Fmt.{decimal}
+use Rattle.deriv_check.specs.Reading.{seen}
+use Rattle.deriv_check.proofs.ReadingLaws.{no_word, seen_two, one_word_read, same_bytes}
+use Rattle.deriv_check.proofs.line_reader.read_derivation_words.Goals as goal
+
+pub returns : goal.returns
+returns c =
+    let words = c.args.words.now in
+    let mark : (get_or words 0 no_word).now ≡ codes "derivation" = same_bytes (get_or words 0 no_word).now c.as_slice.result.now (sym c.ne.ensures ∙ c.if-ne.false) ∙ c.as_slice.ensures in
+    let whole = seen_two words c.if-words-ne2.false ∙ ap (λ w. w ∷ (get_or words 1 no_word).now ∷ []) mark in
+    one_word_read IsCount decimal (codes "derivation") (get_or words 1 no_word).now (seen words) c.read_count.result whole c.read_count.ensures

@@ -1,0 +1,23 @@
+use Rattle.std.proofs.Common.{ℕ, ◌+◌, arith, subst, sym, List, Option, get_or}
+use Rattle.std.specs.Fmt.{decimal}
+use Rattle.deriv_check.specs.EvidenceForm.{IsHint}
+use Rattle.deriv_check.specs.Reading.{Reading, seen}
+use Rattle.deriv_check.proofs.ReadingLaws.{IsReadUpTo, no_word, read_none, seen_more, seen_stop, seen_end}
+use Rattle.deriv_check.proofs.term_reader.front_hints.Goals as goal
+
+pub loop-word-init : goal.loop-word-init
+loop-word-init c = subst (λ (f : List ℕ). IsReadUpTo IsHint decimal (seen c.args.words.now) 0 f) (sym c.new-found.ensures) (read_none IsHint decimal (seen c.args.words.now))
+
+pub returns-in_default : goal.returns-in_default
+returns-in_default c =
+    seen_stop IsHint decimal c.args.words.now c.loop-word.word-index c.loop-word.found c.loop-word-test.true c.loop-word.invariant
+    (subst (λ (o : Option ℕ). Reading IsHint decimal (get_or c.args.words.now c.loop-word.word-index no_word).now o) c.in_default.is c.in_ok-hint.ensures)
+
+pub loop-word-preserved : goal.loop-word-preserved
+loop-word-preserved c =
+    subst (λ (f : List ℕ). IsReadUpTo IsHint decimal (seen c.args.words.now) (c.loop-word.word-index + 1) f) (sym c.in_ok-push.ensures.ok)
+    (seen_more IsHint decimal c.args.words.now c.loop-word.word-index c.loop-word.found c.in-Some.hint c.loop-word-test.true c.loop-word.invariant
+    (subst (λ (o : Option ℕ). Reading IsHint decimal (get_or c.args.words.now c.loop-word.word-index no_word).now o) c.in-Some.is c.in_ok-hint.ensures))
+
+pub returns : goal.returns
+returns c = seen_end IsHint decimal c.args.words.now c.loop-word.word-index c.loop-word.found c.loop-word-test.false (omega arith) c.loop-word.invariant

@@ -8,7 +8,7 @@ use Rattle.folder_core.specs.declared.node.Node.TheVariants.{File, Dir, Link}
 
 -- a mode in three octal digits
 abbrev pub mode_digits : ℕ → List ℕ
-mode_digits mode = (48 + mode / 64) ∷ (48 + mode / 8 % 8) ∷ (48 + mode % 8) ∷ []
+mode_digits mode = (48 + mode / 8 / 8) ∷ (48 + mode / 8 % 8) ∷ (48 + mode % 8) ∷ []
 
 -- The line of an old node. Behind that of a file come its bytes.
 unfoldable pub node_text : Option Node → List ℕ

@@ -3,5 +3,8 @@ pub mod EntryText
 pub mod Fault
 pub mod Held
 pub mod Keeping
+pub mod Parts
 pub mod Places
 pub mod PuttingBack
+pub mod Settling
+pub mod Unescaped

@@ -4,13 +4,18 @@
 
 mod entry;
 mod fault;
+mod field;
 mod keeping;
+mod lines;
 mod places;
 mod putting_back;
+mod reading;
+mod settling;
 mod writing;
 
 pub use entry::{Entry, EntryNumber};
 pub use fault::StoreFault;
 pub use keeping::keep;
 pub use putting_back::put_back;
+pub use reading::read_entry;
 pub use writing::write_entry;

@@ -62,17 +62,27 @@ fn push_node(text: &mut Vec<u8>, node: Option<&Node>) -> Result<(), NoMemory>
     Ok(())
 }
 
-/// Three octal digits.
 fn push_mode(text: &mut Vec<u8>, mode: u16) -> Result<(), NoMemory>
     requires { mode ≤ 511 }
     ensures { OnOk result (text.new.items ≡ text.old.items ++ mode_digits mode) }
 {
-    let digits = [digit(mode / 64), digit(mode / 8 % 8), digit(mode % 8)];
-    text.extend_from_slice(&digits)?;
+    text.extend_from_slice(&mode_digits(mode))?;
     Ok(())
 }
 
-fn digit(value: u16) -> u8
+/// Three octal digits.
+pub(crate) fn mode_digits(mode: u16) -> [u8; 3]
+    requires { mode ≤ 511 }
+    ensures { result ≡ mode_digits mode }
+{
+    [
+        octal_digit(mode / 8 / 8),
+        octal_digit(mode / 8 % 8),
+        octal_digit(mode % 8),
+    ]
+}
+
+fn octal_digit(value: u16) -> u8
     requires { value < 8 }
     ensures { result ≡ 48 + value }
 {

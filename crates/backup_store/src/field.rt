@@ -1,0 +1,60 @@
+ghost use Rattle.std.specs.Prelude.{◌≡◌, ◌<◌, ◌≤◌, IfOk, MatchOption};
+ghost use Rattle.backup_store.specs.Unescaped.{hex_value, unescaped, IsFieldOf, IsNoField};
+
+use osgi_version::{NoMemory, Text, TextFault, push_field};
+use std::alloc::Global;
+
+/// The text that has this field. None exactly where the bytes are no text's field.
+pub(crate) fn read_field(alloc: Global, field: &[u8]) -> Result<Option<Text>, NoMemory>
+    ensures { IfOk result (λ text. MatchOption text (IsNoField field.now) (IsFieldOf field.now)) }
+{
+    let bytes = match field {
+        b"%-" => Vec::new(alloc),
+        _ => unescape(alloc, field)?,
+    };
+    let text = match Text::new(alloc, bytes.as_slice()) {
+        Ok(text) => text,
+        Err(TextFault::NotUtf8 { .. }) => return Ok(None),
+        Err(TextFault::NoMemory) => return Err(NoMemory),
+    };
+    // A text has one field.
+    let mut again = Vec::new(alloc);
+    push_field(&mut again, text.bytes())?;
+    Ok(if again.as_slice() == field {
+        Some(text)
+    } else {
+        None
+    })
+}
+
+#[tactic(auto, unfolding(crate::specs::Unescaped::unescaped))]
+fn unescape(alloc: Global, field: &[u8]) -> Result<Vec<u8>, NoMemory>
+    ensures { IfOk result (λ bytes. bytes.items ≡ unescaped field.now) }
+{
+    let mut bytes = Vec::new(alloc);
+    let mut rest = field;
+    loop {
+        match rest {
+            [] => return Ok(bytes),
+            [b'%', high, low, behind @ ..] => {
+                bytes.push(16 * hex_value(*high) + hex_value(*low))?;
+                rest = behind;
+            }
+            [byte, behind @ ..] => {
+                bytes.push(*byte)?;
+                rest = behind;
+            }
+        }
+    }
+}
+
+fn hex_value(digit: u8) -> u8
+    ensures value { result ≡ hex_value digit }
+    ensures small { result < 16 }
+{
+    match digit {
+        b'0'..=b'9' => digit - b'0',
+        b'A'..=b'F' => digit - b'A' + 10,
+        _ => 0,
+    }
+}

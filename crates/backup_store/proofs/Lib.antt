@@ -1,0 +1,5 @@
+pub mod Bytes
+pub mod Fields
+pub mod Fronts
+pub mod Texts
+pub mod Unique

@@ -12,7 +12,7 @@ use Rattle.backup_store.specs.EntryText.{node_text, entry_text, mode_digits}
 use Rattle.backup_store.specs.Held.{HoldsEntry}
 use Rattle.backup_store.specs.Places.{entry_path}
 use Rattle.backup_store.proofs.Fields.{field_injective, no_lf_field}
-use Rattle.backup_store.proofs.Fronts.{same_lines}
+use Rattle.backup_store.proofs.Fronts.{same_lines, differ}
 use Rattle.backup_store.proofs.Texts.{no_lf_decimal, path_injective, path_utf8}
 
 abbrev pub byte_at : ℕ → List ℕ → ℕ
@@ -28,10 +28,10 @@ same_file mode mode' blob blob' modes blobs = ap (λ (m : ℕ). File m blob) mod
 pub node_injective : (a b : Option Node) → IfSome a IsOldNode → IfSome b IsOldNode → node_text a ≡ node_text b → a ≡ b
 unfolding node_text
 node_injective None None old_a old_b same = refl
-node_injective None (Some (File mode blob)) old_a old_b same = let first : 110 ≡ 102 = ap (byte_at 0) same in absurd (omega arith)
-node_injective None (Some Dir) old_a old_b same = let first : 110 ≡ 100 = ap (byte_at 0) same in absurd (omega arith)
-node_injective None (Some (Link target)) old_a old_b same = let first : 110 ≡ 108 = ap (byte_at 0) same in absurd (omega arith)
-node_injective (Some (File mode blob)) None old_a old_b same = let first : 102 ≡ 110 = ap (byte_at 0) same in absurd (omega arith)
+node_injective None (Some (File mode blob)) old_a old_b same = absurd (differ 110 102 (ap (byte_at 0) same) refl)
+node_injective None (Some Dir) old_a old_b same = absurd (differ 110 100 (ap (byte_at 0) same) refl)
+node_injective None (Some (Link target)) old_a old_b same = absurd (differ 110 108 (ap (byte_at 0) same) refl)
+node_injective (Some (File mode blob)) None old_a old_b same = absurd (differ 102 110 (ap (byte_at 0) same) refl)
 node_injective (Some (File mode blob)) (Some (File mode' blob')) old_a old_b same =
     let first : 48 + mode / 8 / 8 ≡ 48 + mode' / 8 / 8 = ap (byte_at 5) same in
     let second : 48 + mode / 8 % 8 ≡ 48 + mode' / 8 % 8 = ap (byte_at 6) same in
@@ -39,15 +39,15 @@ node_injective (Some (File mode blob)) (Some (File mode' blob')) old_a old_b sam
     let rest : decimal (length blob) ++ 10 ∷ blob ≡ decimal (length blob') ++ 10 ∷ blob' = ap (drop 9) same in
     let parts = same_lines (decimal (length blob)) (decimal (length blob')) blob blob' (no_lf_decimal (length blob) (omega (arith, old_a.1))) (no_lf_decimal (length blob') (omega (arith, old_b.1))) rest in
     ap (λ (n : Node). Some n) (same_file mode mode' blob blob' (mode_injective mode mode' first second third) parts.1)
-node_injective (Some (File mode blob)) (Some Dir) old_a old_b same = let first : 102 ≡ 100 = ap (byte_at 0) same in absurd (omega arith)
-node_injective (Some (File mode blob)) (Some (Link target)) old_a old_b same = let first : 102 ≡ 108 = ap (byte_at 0) same in absurd (omega arith)
-node_injective (Some Dir) None old_a old_b same = let first : 100 ≡ 110 = ap (byte_at 0) same in absurd (omega arith)
-node_injective (Some Dir) (Some (File mode blob)) old_a old_b same = let first : 100 ≡ 102 = ap (byte_at 0) same in absurd (omega arith)
+node_injective (Some (File mode blob)) (Some Dir) old_a old_b same = absurd (differ 102 100 (ap (byte_at 0) same) refl)
+node_injective (Some (File mode blob)) (Some (Link target)) old_a old_b same = absurd (differ 102 108 (ap (byte_at 0) same) refl)
+node_injective (Some Dir) None old_a old_b same = absurd (differ 100 110 (ap (byte_at 0) same) refl)
+node_injective (Some Dir) (Some (File mode blob)) old_a old_b same = absurd (differ 100 102 (ap (byte_at 0) same) refl)
 node_injective (Some Dir) (Some Dir) old_a old_b same = refl
-node_injective (Some Dir) (Some (Link target)) old_a old_b same = let first : 100 ≡ 108 = ap (byte_at 0) same in absurd (omega arith)
-node_injective (Some (Link target)) None old_a old_b same = let first : 108 ≡ 110 = ap (byte_at 0) same in absurd (omega arith)
-node_injective (Some (Link target)) (Some (File mode blob)) old_a old_b same = let first : 108 ≡ 102 = ap (byte_at 0) same in absurd (omega arith)
-node_injective (Some (Link target)) (Some Dir) old_a old_b same = let first : 108 ≡ 100 = ap (byte_at 0) same in absurd (omega arith)
+node_injective (Some Dir) (Some (Link target)) old_a old_b same = absurd (differ 100 108 (ap (byte_at 0) same) refl)
+node_injective (Some (Link target)) None old_a old_b same = absurd (differ 108 110 (ap (byte_at 0) same) refl)
+node_injective (Some (Link target)) (Some (File mode blob)) old_a old_b same = absurd (differ 108 102 (ap (byte_at 0) same) refl)
+node_injective (Some (Link target)) (Some Dir) old_a old_b same = absurd (differ 108 100 (ap (byte_at 0) same) refl)
 node_injective (Some (Link target)) (Some (Link target')) old_a old_b same =
     let rest : field target ++ 10 ∷ [] ≡ field target' ++ 10 ∷ [] = ap (drop 5) same in
     let parts = same_lines (field target) (field target') [] [] (no_lf_field target) (no_lf_field target') rest in

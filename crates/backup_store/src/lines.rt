@@ -1,4 +1,4 @@
-ghost use Rattle.std.specs.Prelude.{◌≡◌, ◌≢◌, ◌++◌, ◌∷◌, ℕ, List, Contains, MatchOption, IfSome, IfNone};
+ghost use Rattle.std.specs.Prelude.{◌≡◌, ◌≢◌, ◌++◌, ◌∷◌, [], ℕ, List, Contains, MatchOption, IfSome, IfNone};
 
 /// What comes behind this front.
 pub(crate) fn behind<'a>(bytes: &'a [u8], front: &[u8]) -> Option<&'a [u8]>
@@ -15,4 +15,14 @@ pub(crate) fn split_line(bytes: &[u8]) -> Option<(&[u8], &[u8])>
 {
     let end = bytes.iter().position(|byte| *byte == b'\n')?;
     Some((&bytes[..end], &bytes[end + 1..]))
+}
+
+/// The line without its LF, where nothing comes behind it.
+pub(crate) fn only_line(bytes: &[u8]) -> Option<&[u8]>
+    ensures none { IfNone result ((line : List ℕ) → ¬ (Contains line 10) → bytes.entry.now ≢ line ++ 10 ∷ []) }
+    ensures whole { IfSome result (λ line. bytes.entry.now ≡ line.now ++ 10 ∷ []) }
+    ensures line { IfSome result (λ line. ¬ (Contains line.now 10)) }
+{
+    let (line, rest) = split_line(bytes)?;
+    if rest.is_empty() { Some(line) } else { None }
 }

@@ -1,4 +1,4 @@
-ghost use Rattle.std.specs.Prelude.{◌≡◌, ◌≢◌, ◌↔◌, ◌≤◌, ℕ, [], codes, length, IfOk, IsTrue, MatchOption};
+ghost use Rattle.std.specs.Prelude.{◌≡◌, ◌≢◌, ◌↔◌, ◌≤◌, ◌++◌, ◌∷◌, ℕ, List, [], codes, length, IfOk, IfSome, IfNone, IsTrue, MatchOption};
 ghost use Rattle.std.specs.Fmt.{decimal};
 ghost use Rattle.backup_store.specs.Entry.{IsEntryOf, IsNoEntry};
 ghost use Rattle.backup_store.specs.EntryText.{mode_digits};
@@ -6,10 +6,10 @@ ghost use Rattle.backup_store.specs.Parts.{IsPathField, IsNoPathField, IsNodeTex
 
 use crate::entry::Entry;
 use crate::field::read_field;
-use crate::lines::{behind, split_line};
+use crate::lines::{behind, only_line, split_line};
 use crate::writing::mode_digits;
 use folder_core::{Blob, Node, Path};
-use osgi_version::{List, NoMemory, push_number};
+use osgi_version::{List as Bytes, NoMemory, push_number};
 use std::alloc::Global;
 
 const MOST_TARGET: usize = 4096;
@@ -76,7 +76,7 @@ fn read_node(alloc: Global, bytes: &[u8]) -> Result<Option<Node>, NoMemory>
 fn read_link(alloc: Global, bytes: &[u8]) -> Result<Option<Node>, NoMemory>
     ensures { IfOk result (λ node. MatchOption node (IsNoNodeBehind (codes "link ") bytes.now) (IsNodeBehind (codes "link ") bytes.now)) }
 {
-    let Some((field, [])) = split_line(bytes) else {
+    let Some(field) = only_line(bytes) else {
         return Ok(None);
     };
     let Some(target) = read_field(alloc, field)? else {
@@ -92,10 +92,7 @@ fn read_link(alloc: Global, bytes: &[u8]) -> Result<Option<Node>, NoMemory>
 fn read_file(alloc: Global, bytes: &[u8]) -> Result<Option<Node>, NoMemory>
     ensures { IfOk result (λ node. MatchOption node (IsNoNodeBehind (codes "file ") bytes.now) (IsNodeBehind (codes "file ") bytes.now)) }
 {
-    let [first, second, third, b' ', rest @ ..] = bytes else {
-        return Ok(None);
-    };
-    let Some(mode) = read_mode([*first, *second, *third]) else {
+    let Some((mode, rest)) = split_mode(bytes) else {
         return Ok(None);
     };
     let Some((count, content)) = split_line(rest) else {
@@ -104,9 +101,24 @@ fn read_file(alloc: Global, bytes: &[u8]) -> Result<Option<Node>, NoMemory>
     if !is_count_of(alloc, count, content)? {
         return Ok(None);
     }
-    match Blob::new(List::from_vec(Vec::from_slice(alloc, content)?)) {
+    match Blob::new(Bytes::from_vec(Vec::from_slice(alloc, content)?)) {
         Some(blob) => Ok(Some(Node::File { mode, blob })),
         None => unreachable!(),
+    }
+}
+
+/// The mode at the front, and what comes behind the blank after it.
+fn split_mode(bytes: &[u8]) -> Option<(u16, &[u8])>
+    ensures none { IfNone result ((mode : ℕ) (rest : List ℕ) → mode ≤ 511 → bytes.entry.now ≢ mode_digits mode ++ 32 ∷ rest) }
+    ensures mode { IfSome result (λ parts. parts.0 ≤ 511) }
+    ensures parts { IfSome result (λ parts. bytes.entry.now ≡ mode_digits parts.0 ++ 32 ∷ parts.1.now) }
+{
+    match bytes {
+        [first, second, third, b' ', rest @ ..] => {
+            let mode = read_mode([*first, *second, *third])?;
+            Some((mode, rest))
+        }
+        _ => None,
     }
 }
 

@@ -1,7 +1,7 @@
 ghost use Rattle.std.specs.Prelude.{◌≡◌, ◌+◌, ◌++◌, ◌<◌, ◌≤◌, length, IfOk, IfErr, IfSome, OnOk};
 ghost use Rattle.std.specs.Option.{option_copied};
 ghost use Rattle.folder_core.specs.Node.{IsNode};
-ghost use Rattle.backup_store.specs.Entry.{IsEntry, IsSmall};
+ghost use Rattle.backup_store.specs.Entry.{IsEntry, IsOldNode, IsSmall};
 ghost use Rattle.backup_store.specs.EntryText.{entry_text, node_text, mode_digits};
 ghost use Rattle.backup_store.specs.declared.fault.StoreFault.TheVariants as store_fault;
 
@@ -28,19 +28,26 @@ pub fn write_entry(alloc: Global, entry: &Entry) -> Result<Blob, StoreFault>
 }
 
 /// After an `Err` the text is of no use.
+#[tactic(auto, unfolding(crate::specs::EntryText::entry_text))]
 fn push_entry(text: &mut Vec<u8>, entry: &Entry) -> Result<(), NoMemory>
-    requires { IfSome entry.now.before IsNode }
-    ensures { OnOk result (text.new.items ≡ text.old.items ++ entry_text entry.now.path entry.now.before) }
+    requires node { IfSome entry.now.before IsNode }
+    requires small { IfSome entry.now.before IsSmall }
+    ensures text { OnOk result (text.new.items ≡ text.old.items ++ entry_text entry.now.path entry.now.before) }
+    ensures entry { OnOk result (IsEntry entry.now.path entry.now.before) }
 {
+    let _ = entry.path.names();
     text.extend_from_slice(b"p2entry 1\npath ")?;
     push_field(text, entry.path.text()?.bytes())?;
     text.push(b'\n')?;
     push_node(text, entry.before.as_ref())
 }
 
+#[tactic(auto, unfolding(crate::specs::EntryText::node_text))]
 fn push_node(text: &mut Vec<u8>, node: Option<&Node>) -> Result<(), NoMemory>
-    requires { IfSome (option_copied node) IsNode }
-    ensures { OnOk result (text.new.items ≡ text.old.items ++ node_text (option_copied node.entry)) }
+    requires node { IfSome (option_copied node) IsNode }
+    requires small { IfSome (option_copied node) IsSmall }
+    ensures old { OnOk result (IfSome (option_copied node.entry) IsOldNode) }
+    ensures text { OnOk result (text.new.items ≡ text.old.items ++ node_text (option_copied node.entry)) }
 {
     match node {
         None => text.extend_from_slice(b"none\n")?,

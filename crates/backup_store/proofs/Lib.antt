@@ -1,6 +1,10 @@
+pub mod Bools
 pub mod Bytes
 pub mod Fields
 pub mod Fronts
+pub mod Moments
+pub mod Names
 pub mod Readings
+pub mod SettlingLemmas
 pub mod Texts
 pub mod Unique

@@ -2,6 +2,7 @@ pub mod Bools
 pub mod Bytes
 pub mod Fields
 pub mod Fronts
+pub mod KeepingLemmas
 pub mod Moments
 pub mod Names
 pub mod Readings

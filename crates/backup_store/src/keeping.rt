@@ -1,4 +1,4 @@
-ghost use Rattle.std.specs.Prelude.{◌≡◌, ◌≢◌, ◌⊎◌, [], IfOk, IfErr, IfSome, OnOk, OnErr, IsErrOf, Some};
+ghost use Rattle.std.specs.Prelude.{◌≡◌, ◌≢◌, ◌⊎◌, ◌^◌, ◌<◌, [], IfOk, IfErr, IfSome, OnOk, OnErr, IsErrOf, Some};
 ghost use Rattle.folder_core.specs.Cause.{HasCause};
 ghost use Rattle.folder_core.specs.Crash.{AllImages, IsImage, Elapses, LeavesOnly};
 ghost use Rattle.folder_core.specs.Step.{OnTold, Step};
@@ -82,6 +82,7 @@ fn prepare<F: Folder>(
     requires { IsOutside path.now }
 
     ensures place { IfOk result (λ touch. touch.path ≡ entry_path number.0) }
+    ensures range { IfOk result (λ touch. number.0 < 2 ^ 32) }
     ensures node { IfOk result (λ touch. IfSome touch.node IsNode) }
     ensures entry { IfOk result (λ touch. OnTold (F.told folder.old) (λ s. IsEntry path.now (s.now path.now))) }
     ensures touch { IfOk result (λ touch. OnTold (F.told folder.old)
@@ -106,6 +107,7 @@ fn entry_touch(
     requires small { IfSome before IsSmall }
     ensures touch { IfOk result (λ touch. touch ≡ entry_touch number.0 path.now before) }
     ensures entry { IfOk result (λ touch. IsEntry path.now before) }
+    ensures range { IfOk result (λ touch. number.0 < 2 ^ 32) }
     ensures refused { IfErr result (λ fault. fault ≡ store_fault.NoMemory) }
 {
     let entry = Entry {

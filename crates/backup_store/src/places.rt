@@ -1,4 +1,4 @@
-ghost use Rattle.std.specs.Prelude.{◌≡◌, ◌++◌, ◌∷◌, ◌<◌, [], length, IfOk};
+ghost use Rattle.std.specs.Prelude.{◌≡◌, ◌++◌, ◌∷◌, ◌^◌, ◌<◌, [], length, IfOk};
 ghost use Rattle.folder_core.specs.Name.{IsName};
 ghost use Rattle.folder_core.specs.Node.{entries_path};
 ghost use Rattle.backup_store.specs.Places.{entry_path, mark_path};
@@ -10,7 +10,8 @@ use std::alloc::Global;
 
 /// Where the file of an entry stands: `.p2/e/K`.
 pub(crate) fn entry_path(alloc: Global, number: EntryNumber) -> Result<Path, NoMemory>
-    ensures { IfOk result (λ path. path ≡ entry_path number.0) }
+    ensures path { IfOk result (λ path. path ≡ entry_path number.0) }
+    ensures range { number.0 < 2 ^ 32 }
 {
     let name = number.0.to_string(alloc)?;
     in_entries(alloc, name.as_str())

@@ -1,4 +1,4 @@
-use Rattle.std.proofs.Common.{◌≡◌, codes, subst}
+use Rattle.std.proofs.Common.{◌≡◌, codes, sym, ◌∙◌, subst}
 use Rattle.folder_core.specs.declared.node.Node.TheVariants.{File}
 use Rattle.backup_store.specs.Parts.{IsNodeBehind}
 use Rattle.backup_store.proofs.Bools.{not_true, is_true}
@@ -20,7 +20,6 @@ pub returns : goal.returns
 returns c =
     let parts = c.in-Some-split_line in
     let counted = c.in_ok-is_count_of.ensures.0 (is_true c.in_ok-is_count_of.field-0 c.if-not-branch.false) in
-    let blob = c.in-Some-new.ensures in
-    let same : parts.content.now ≡ c.in-Some-new.blob = cc (blob, c.from_vec.ensures, c.in_ok-from_slice.ensures.items) in
+    let same : parts.content.now ≡ c.in-Some-new.blob = sym (c.in-Some-new.ensures.1 ∙ c.from_vec.ensures ∙ c.in_ok-from_slice.ensures.items) in
     subst (λ b. IsNodeBehind (codes "file ") c.args.bytes.now (File c.in-Some.mode b)) same
       (file_found c.args.bytes.now c.in-Some.rest.now parts.count.now parts.content.now c.in-Some.mode c.in-Some.ensures.mode c.in-Some.ensures.parts parts.ensures.parts counted.0 counted.1)

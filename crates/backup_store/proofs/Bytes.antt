@@ -31,12 +31,12 @@ unfolding encode
 AreBytes-encode c h =
     let limit = scalar_below c h in
     cond_holds AreBytes (ltb c 128) _ _
-      (λ one. let small = below c 128 one in (omega arith, tt))
-      (λ more. cond_holds AreBytes (ltb c 2048) _ _
-        (λ two. let small = below c 2048 two in (omega arith, (next_below c, tt)))
-        (λ most. cond_holds AreBytes (ltb c 65536) _ _
-          (λ three. let small = below c 65536 three in (omega arith, (omega arith, (next_below c, tt))))
-          (λ four. (omega arith, (omega arith, (omega arith, (next_below c, tt)))))))
+    (λ one. let small = below c 128 one in (omega arith, tt))
+    (λ more. cond_holds AreBytes (ltb c 2048) _ _
+    (λ two. let small = below c 2048 two in (omega arith, (next_below c, tt)))
+    (λ most. cond_holds AreBytes (ltb c 65536) _ _
+    (λ three. let small = below c 65536 three in (omega arith, (omega arith, (next_below c, tt))))
+    (λ four. (omega arith, (omega arith, (omega arith, (next_below c, tt)))))))
 
 both_left : (p q : Bool) → (p && q) ≡ true → p ≡ true
 both_left true q h = refl

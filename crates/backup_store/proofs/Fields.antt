@@ -36,15 +36,15 @@ unescaped-flat_map [] are = refl
 unescaped-flat_map (b ∷ bytes) are =
     let rest = unescaped-flat_map bytes are.1 in
     cond_holds (λ (l : List ℕ). unescaped (l ++ flat_map field_byte bytes) ≡ b ∷ bytes) (is_field_byte b) (b ∷ []) (37 ∷ hex_digit (b / 16) ∷ hex_digit (b % 16) ∷ [])
-      (λ is. unescaped-plain b (flat_map field_byte bytes) (not_percent b is) ∙ ap (λ (l : List ℕ). b ∷ l) rest)
-      (λ other.
-        let below : b < 256 = are.0 in
-        let high = hex_value-hex_digit (b / 16) (omega arith) in
-        let low = hex_value-hex_digit (b % 16) (omega arith) in
-        let value : 16 * hex_value (hex_digit (b / 16)) + hex_value (hex_digit (b % 16)) ≡ b = omega (arith, high, low) in
-        unescaped-escape (hex_digit (b / 16)) (hex_digit (b % 16)) (flat_map field_byte bytes)
-        ∙ ap (λ (n : ℕ). n ∷ unescaped (flat_map field_byte bytes)) value
-        ∙ ap (λ (l : List ℕ). b ∷ l) rest)
+    (λ is. unescaped-plain b (flat_map field_byte bytes) (not_percent b is) ∙ ap (λ (l : List ℕ). b ∷ l) rest)
+    (λ other.
+    let below : b < 256 = are.0 in
+    let high = hex_value-hex_digit (b / 16) (omega arith) in
+    let low = hex_value-hex_digit (b % 16) (omega arith) in
+    let value : 16 * hex_value (hex_digit (b / 16)) + hex_value (hex_digit (b % 16)) ≡ b = omega (arith, high, low) in
+    unescaped-escape (hex_digit (b / 16)) (hex_digit (b % 16)) (flat_map field_byte bytes)
+    ∙ ap (λ (n : ℕ). n ∷ unescaped (flat_map field_byte bytes)) value
+    ∙ ap (λ (l : List ℕ). b ∷ l) rest)
 
 -- the field of no text but the empty one is `%-`
 field_of_nothing : (b : ℕ) (bytes : List ℕ) → AreBytes (b ∷ bytes) → flat_map field_byte (b ∷ bytes) ≢ codes "%-"
@@ -87,14 +87,14 @@ no_lf_escaped : (bytes : List ℕ) → ¬ (Contains (flat_map field_byte bytes) 
 no_lf_escaped [] = no_lf_nil
 no_lf_escaped (b ∷ bytes) =
     cond_holds (λ (l : List ℕ). ¬ (Contains (l ++ flat_map field_byte bytes) 10)) (is_field_byte b) (b ∷ []) (37 ∷ hex_digit (b / 16) ∷ hex_digit (b % 16) ∷ [])
-      (λ is. no_lf_cons b (flat_map field_byte bytes) (plain_not_lf b is) (no_lf_escaped bytes))
-      (λ other.
-        let high = hex_digit_high (b / 16) in
-        let low = hex_digit_high (b % 16) in
-        let rest = flat_map field_byte bytes in
-        no_lf_cons 37 (hex_digit (b / 16) ∷ hex_digit (b % 16) ∷ rest) (λ e. omega arith)
-          (no_lf_cons (hex_digit (b / 16)) (hex_digit (b % 16) ∷ rest) (λ e. omega (arith, high, e))
-            (no_lf_cons (hex_digit (b % 16)) rest (λ e. omega (arith, low, e)) (no_lf_escaped bytes))))
+    (λ is. no_lf_cons b (flat_map field_byte bytes) (plain_not_lf b is) (no_lf_escaped bytes))
+    (λ other.
+    let high = hex_digit_high (b / 16) in
+    let low = hex_digit_high (b % 16) in
+    let rest = flat_map field_byte bytes in
+    no_lf_cons 37 (hex_digit (b / 16) ∷ hex_digit (b % 16) ∷ rest) (λ e. omega arith)
+    (no_lf_cons (hex_digit (b / 16)) (hex_digit (b % 16) ∷ rest) (λ e. omega (arith, high, e))
+    (no_lf_cons (hex_digit (b % 16)) rest (λ e. omega (arith, low, e)) (no_lf_escaped bytes))))
 
 pub no_lf_field : (text : List ℕ) → ¬ (Contains (field text) 10)
 no_lf_field [] = no_lf_cons 37 (45 ∷ []) (λ e. omega arith) (no_lf_cons 45 [] (λ e. omega arith) no_lf_nil)

@@ -32,23 +32,23 @@ none_below : (m : Map) → IsFormed m → (path : List (List ℕ)) → m path �
 none_below m formed path none depth name [] short = ⊎_elim
     (λ absent. absent)
     (λ there.
-      let above = formed.parents (path ++ name ∷ []) there.0 (push_some (path ++ name ∷ []) path name refl) there.1 in
-      let same : m path ≡ Some Dir = ap m (sym (parent-push (path ++ name ∷ []) path name refl)) ∙ above in
-      absurd (let no_node : ⊥ = cc in no_node))
+    let above = formed.parents (path ++ name ∷ []) there.0 (push_some (path ++ name ∷ []) path name refl) there.1 in
+    let same : m path ≡ Some Dir = ap m (sym (parent-push (path ++ name ∷ []) path name refl)) ∙ above in
+    absurd (let no_node : ⊥ = cc in no_node))
     (some_or_none (m (path ++ name ∷ [])))
 none_below m formed path none zero name (next ∷ rest) short = absurd (omega arith)
 none_below m formed path none (suc depth) name (next ∷ rest) short = ⊎_elim
     (λ absent. absent)
     (λ there.
-      let place = path ++ name ∷ next ∷ rest in
-      let cut = front_last (next ∷ rest) (λ e. cc) in
-      let front = parent (next ∷ rest) in
-      let whole : place ≡ (path ++ name ∷ front) ++ cut.0 ∷ [] = ap (λ (l : List (List ℕ)). path ++ name ∷ l) cut.1 ∙ sym (append_assoc path (name ∷ front) (cut.0 ∷ [])) in
-      let above = formed.parents place there.0 (push_some place (path ++ name ∷ front) cut.0 whole) there.1 in
-      let same : m (path ++ name ∷ front) ≡ Some Dir = ap m (sym (parent-push place (path ++ name ∷ front) cut.0 whole)) ∙ above in
-      let counted : length (next ∷ rest) ≡ length front + 1 = ap length cut.1 ∙ length-append front (cut.0 ∷ []) in
-      let absent = none_below m formed path none depth name front (omega (arith, counted)) in
-      absurd (let no_node : ⊥ = cc in no_node))
+    let place = path ++ name ∷ next ∷ rest in
+    let cut = front_last (next ∷ rest) (λ e. cc) in
+    let front = parent (next ∷ rest) in
+    let whole : place ≡ (path ++ name ∷ front) ++ cut.0 ∷ [] = ap (λ (l : List (List ℕ)). path ++ name ∷ l) cut.1 ∙ sym (append_assoc path (name ∷ front) (cut.0 ∷ [])) in
+    let above = formed.parents place there.0 (push_some place (path ++ name ∷ front) cut.0 whole) there.1 in
+    let same : m (path ++ name ∷ front) ≡ Some Dir = ap m (sym (parent-push place (path ++ name ∷ front) cut.0 whole)) ∙ above in
+    let counted : length (next ∷ rest) ≡ length front + 1 = ap length cut.1 ∙ length-append front (cut.0 ∷ []) in
+    let absent = none_below m formed path none depth name front (omega (arith, counted)) in
+    absurd (let no_node : ⊥ = cc in no_node))
     (some_or_none (m (path ++ name ∷ next ∷ rest)))
 
 pub nothing_below : (m : Map) (path : List (List ℕ)) → IsFormed m → m path ≡ None → NothingBelow m path
@@ -80,13 +80,13 @@ clear_mark k s small image room none =
     let marked : Map = set_at s.now (mark_path k) (Some Dir) in
     let formed : IsFormed marked = IsFormed-set_at s.now (mark_path k) (Some Dir) image.formed (can_mark_now k s image.formed room now) (mark_is_path k small) tt tt in
     let untouched : ¬ (Contains s.touched (mark_path k)) = λ has.
-        let with_mark : IsImage s marked = record {
-          formed = formed;
-          untouched = λ place apart. changed_other s.now (mark_path k) (Some Dir) place (λ is. apart (subst (λ p. Contains s.touched p) (sym is) has)) ∙ image.untouched place apart;
-        } in
-        let gone = none marked with_mark in
-        let there = changed_here s.now (mark_path k) (Some Dir) (mark_path k) refl in
-        let no_node : ⊥ = cc in no_node
+    let with_mark : IsImage s marked = record {
+      formed = formed;
+      untouched = λ place apart. changed_other s.now (mark_path k) (Some Dir) place (λ is. apart (subst (λ p. Contains s.touched p) (sym is) has)) ∙ image.untouched place apart;
+    } in
+    let gone = none marked with_mark in
+    let there = changed_here s.now (mark_path k) (Some Dir) (mark_path k) refl in
+    let no_node : ⊥ = cc in no_node
     in
     record { untouched = untouched; unsynced = sym (image.untouched (mark_path k) untouched) ∙ now; now = now }
 
@@ -204,7 +204,7 @@ can_mark k path s u room none entered formed = record {
   not_root = λ e. cc;
   parent = ap (λ (f : Map). f entries_path) entered.settled.now ∙ changed_other s.now (entry_path k) file entries_path (λ is. apart is) ∙ room.directory;
   nothing_below = nothing_below u.now (mark_path k) formed
-    (ap (λ (f : Map). f (mark_path k)) entered.settled.now ∙ changed_other s.now (entry_path k) file (mark_path k) (mark_apart k) ∙ none);
+      (ap (λ (f : Map). f (mark_path k)) entered.settled.now ∙ changed_other s.now (entry_path k) file (mark_path k) (mark_apart k) ∙ none);
 }
   where
     file : Option Node
@@ -230,7 +230,7 @@ nothing_touched place (n, below, at) = omega arith
 marked_image : (k : ℕ) (path : List (List ℕ)) (s u : Told) (m : Map) → IsEntered s k path u → IsTouchedImage (mark_path k) u m → IsWritten s k path m
 marked_image k path s u m entered image =
     written k path s u.now m entered.entry entered.settled.now image.formed
-      (λ place apart. image.untouched place (only place apart) ∙ ap (λ (f : Map). f place) entered.settled.synced)
+    (λ place apart. image.untouched place (only place apart) ∙ ap (λ (f : Map). f place) entered.settled.synced)
   where
     only : (place : List (List ℕ)) → place ≢ mark_path k → ¬ (Contains (mark_path k ∷ u.touched) place)
     only place apart (zero, below, at) = apart (sym at)
@@ -242,17 +242,17 @@ leaves_marked k path s u v entered either m (inl image) = inr (marked_image k pa
 leaves_marked k path s u v entered (inr unsettled) m (inr image) = inr (marked_image k path s u m entered (touched_image (mark_path k) u v m unsettled.touches image))
 leaves_marked k path s u v entered (inl settled) m (inr image) =
     inr (written k path s u.now m entered.entry entered.settled.now image.formed
-      (λ place apart. settled_image (mark_touch k) u v m settled image place ∙ marked_same k u v (inl settled) place apart))
+    (λ place apart. settled_image (mark_touch k) u v m settled image place ∙ marked_same k u v (inl settled) place apart))
 
 pub come_marked : (k : ℕ) (path : List (List ℕ)) (s u v : Told) → IsEntered s k path u × IsFormed u.now → IsEither (mark_touch k) u v × IsFormed v.now → HasCome s k path v
 come_marked k path s u v (entered, formed_u) (inl settled, formed_v) = inr (record {
   written = subst (λ (f : Map). IsWritten s k path f) (sym settled.synced)
-    (written k path s u.now v.now entered.entry entered.settled.now formed_v (marked_same k u v (inl settled)));
+      (written k path s u.now v.now entered.entry entered.settled.now formed_v (marked_same k u v (inl settled)));
   touched = λ place has. absurd (nothing_touched place (subst (λ l. Contains l place) settled.touched has));
 })
 come_marked k path s u v (entered, formed_u) (inr unsettled, formed_v) = inr (record {
   written = subst (λ (f : Map). IsWritten s k path f) (sym (unsettled.touches.synced ∙ entered.settled.synced))
-    (written k path s u.now u.now entered.entry entered.settled.now formed_u (λ place apart. refl));
+      (written k path s u.now u.now entered.entry entered.settled.now formed_u (λ place apart. refl));
   touched = λ place has. ⊎_elim
       (λ old. absurd (nothing_touched place (subst (λ l. Contains l place) entered.settled.touched old)))
       (λ is. is)
@@ -263,7 +263,7 @@ pub kept_marked : (k : ℕ) (path : List (List ℕ)) (s u v : Told) → IsEntere
 kept_marked k path s u v entered settled = record {
   elsewhere = marked_elsewhere k path s u v entered (inl settled);
   entry = marked_same k u v (inl settled) (entry_path k) (λ is. mark_apart k (sym is)) ∙ ap (λ (f : Map). f (entry_path k)) entered.settled.now
-    ∙ changed_here s.now (entry_path k) (Some (File 420 (entry_text path (s.now path)))) (entry_path k) refl;
+      ∙ changed_here s.now (entry_path k) (Some (File 420 (entry_text path (s.now path)))) (entry_path k) refl;
   mark = ap (λ (f : Map). f (mark_path k)) settled.now ∙ changed_here u.now (mark_path k) (Some (File 420 mark_text)) (mark_path k) refl;
   synced = settled.synced;
   settled = settled.touched;
@@ -291,9 +291,9 @@ pub still_leaves : (k : ℕ) (path : List (List ℕ)) (old new : Option Told) (p
     → OnTold old (λ s. Step old new (λ before t. EachLeft before.moment t.moment past since (LeavesEntry s k path)))
 still_leaves k path old new past since only each still time =
     leaves_first old new past since (λ s m. LeavesEntry s k path m) (λ s t m. IsImage t m) (λ s t. ((m : Map) → IsImage s m → LeavesEntry s k path m) × IsStill s t)
-      only had (λ s t both m image. both.0 m (still_image s t m both.1 image))
-      (on_told old new (λ s. (m : Map) → IsImage s m → LeavesEntry s k path m) IsStill (λ s t. ((m : Map) → IsImage s m → LeavesEntry s k path m) × IsStill s t) (λ s t a b. (a, b)) had still)
-      time
+    only had (λ s t both m image. both.0 m (still_image s t m both.1 image))
+    (on_told old new (λ s. (m : Map) → IsImage s m → LeavesEntry s k path m) IsStill (λ s t. ((m : Map) → IsImage s m → LeavesEntry s k path m) × IsStill s t) (λ s t a b. (a, b)) had still)
+    time
   where
     touched_too : (s : Told) (m : Map) → IsImage s m → IsTouchedImage (entry_path k) s m
     touched_too s m image = record { formed = image.formed; untouched = λ place apart. image.untouched place (λ has. apart (Contains-append_right (entry_path k ∷ []) s.touched place has)) }

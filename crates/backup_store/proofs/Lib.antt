@@ -5,6 +5,7 @@ pub mod Fronts
 pub mod KeepingLemmas
 pub mod Moments
 pub mod Names
+pub mod PuttingLemmas
 pub mod Readings
 pub mod SettlingLemmas
 pub mod Texts

@@ -54,9 +54,9 @@ Elapses-then had first second = record {
   later = omega (arith, first.later, second.later);
   nothing_else = λ moment m earlier left.
       ⊎_elim
-        (λ so_far. ⊎_elim (λ was. inl was) (λ has. had moment m earlier has) (first.nothing_else moment m earlier so_far))
-        (λ has. inr has)
-        (second.nothing_else moment m (omega (arith, earlier, first.later)) left);
+      (λ so_far. ⊎_elim (λ was. inl was) (λ has. had moment m earlier has) (first.nothing_else moment m earlier so_far))
+      (λ has. inr has)
+      (second.nothing_else moment m (omega (arith, earlier, first.later)) left);
   keeps = λ moment m earlier left. second.keeps moment m (omega (arith, earlier, first.later)) (first.keeps moment m earlier left);
 }
 
@@ -79,9 +79,9 @@ EachLeft-next {before = before} has so_far time = record {
   each = λ m left. ⊎_elim (so_far.each m) (has m) (time.nothing_else before m so_far.later left);
   nothing_else = λ moment m earlier left.
       ⊎_elim
-        (λ was. so_far.nothing_else moment m earlier was)
-        (λ is. inr (has m is))
-        (time.nothing_else moment m (omega (arith, earlier, so_far.later)) left);
+      (λ was. so_far.nothing_else moment m earlier was)
+      (λ is. inr (has m is))
+      (time.nothing_else moment m (omega (arith, earlier, so_far.later)) left);
 }
 
 -- The images of what is told are those of each thing that may be told.

@@ -68,7 +68,7 @@ entry_name k small =
     let some = decimal_nonempty k within in
     let short = length-decimal-le 20 k (omega arith) (omega arith) within in
     plain_name (decimal k) (plain_digits (decimal k) are) (λ is. omega (arith, some, ap length is)) (omega (arith, short))
-      (λ is. no_digit_dot [] (subst AreDigits is are)) (λ is. no_digit_dot (46 ∷ []) (subst AreDigits is are))
+    (λ is. no_digit_dot [] (subst AreDigits is are)) (λ is. no_digit_dot (46 ∷ []) (subst AreDigits is are))
 
 plain_ok : All IsPlain (codes ".ok")
 plain_ok = All-cons IsPlain 46 (111 ∷ 107 ∷ []) dot (two 111 107 (plain 111 (lit≤ tt) (lit≤ tt)) (plain 107 (lit≤ tt) (lit≤ tt)))
@@ -80,7 +80,7 @@ mark_name k small =
     let short = length-decimal-le 20 k (omega arith) (omega arith) within in
     let both : length (decimal k ++ codes ".ok") ≡ length (decimal k) + 3 = length-append (decimal k) (codes ".ok") in
     plain_name (decimal k ++ codes ".ok") (All-append IsPlain (decimal k) (codes ".ok") (plain_digits (decimal k) are) plain_ok)
-      (λ is. omega (arith, both, ap length is)) (omega (arith, short, both)) (λ is. omega (arith, both, ap length is)) (λ is. omega (arith, both, ap length is))
+    (λ is. omega (arith, both, ap length is)) (omega (arith, short, both)) (λ is. omega (arith, both, ap length is)) (λ is. omega (arith, both, ap length is))
 
 in_entries : (name : List ℕ) → IsName name → IsPath (entries_path ++ name ∷ [])
 in_entries name is =

@@ -53,10 +53,10 @@ no_link_field bytes line whole no_lf none = no_link_but bytes (λ target is. non
 pub no_link_long : (bytes line target : List ℕ) → bytes ≡ line ++ 10 ∷ [] → ¬ (Contains line 10) → IsFieldOf line target → 4096 < length target → IsNoNodeBehind (codes "link ") bytes
 no_link_long bytes line target whole no_lf of long =
     no_link_but bytes (λ other is.
-        let same = field_injective other target is.utf8 of.utf8 (link_line bytes line other whole no_lf is ∙ sym of.spelling) in
-        let short = is.short in
-        let lengths = ap length same in
-        omega (arith, short, lengths))
+    let same = field_injective other target is.utf8 of.utf8 (link_line bytes line other whole no_lf is ∙ sym of.spelling) in
+    let short = is.short in
+    let lengths = ap length same in
+    omega (arith, short, lengths))
 
 pub link_found : (bytes line target : List ℕ) → bytes ≡ line ++ 10 ∷ [] → IsFieldOf line target → length target ≤ 4096 → IsNodeBehind (codes "link ") bytes (Link target)
 unfolding node_text
@@ -88,9 +88,9 @@ unfolding node_text
 file_found bytes rest count content mode small whole parts short counted = record {
   old = (small, short);
   spelling =
-    ap (λ (l : List ℕ). codes "file " ++ (mode_digits mode ++ 32 ∷ (l ++ 10 ∷ content))) (sym counted)
-    ∙ ap (λ (l : List ℕ). codes "file " ++ (mode_digits mode ++ 32 ∷ l)) (sym parts)
-    ∙ ap (λ (l : List ℕ). codes "file " ++ l) (sym whole);
+      ap (λ (l : List ℕ). codes "file " ++ (mode_digits mode ++ 32 ∷ (l ++ 10 ∷ content))) (sym counted)
+      ∙ ap (λ (l : List ℕ). codes "file " ++ (mode_digits mode ++ 32 ∷ l)) (sym parts)
+      ∙ ap (λ (l : List ℕ). codes "file " ++ l) (sym whole);
 }
 
 pub dir_found : (bytes : List ℕ) → bytes ≡ codes "dir" ++ 10 ∷ [] → IsNodeBehind [] bytes Dir
@@ -154,8 +154,8 @@ no_entry_node bytes rest line node head parts no_lf none path before is spelled 
 pub entry_found : (bytes rest line node : List ℕ) (path : List (List ℕ)) (before : Option Node) → bytes ≡ (codes "p2entry 1" ++ 10 ∷ codes "path ") ++ rest → rest ≡ line ++ 10 ∷ node → IsPathField line path → IsNodeText node before → IsEntryOf bytes path before
 entry_found bytes rest line node path before head parts at text =
     IsEntryOf-text path before bytes (record { is_path = at.is_path; old = text.old })
-      (entry_behind path before
-      ∙ ap (λ (l : List ℕ). (codes "p2entry 1" ++ 10 ∷ codes "path ") ++ (l ++ 10 ∷ node_text before)) at.spelling
-      ∙ ap (λ (l : List ℕ). (codes "p2entry 1" ++ 10 ∷ codes "path ") ++ (line ++ 10 ∷ l)) text.spelling
-      ∙ ap (λ (l : List ℕ). (codes "p2entry 1" ++ 10 ∷ codes "path ") ++ l) (sym parts)
-      ∙ sym head)
+    (entry_behind path before
+    ∙ ap (λ (l : List ℕ). (codes "p2entry 1" ++ 10 ∷ codes "path ") ++ (l ++ 10 ∷ node_text before)) at.spelling
+    ∙ ap (λ (l : List ℕ). (codes "p2entry 1" ++ 10 ∷ codes "path ") ++ (line ++ 10 ∷ l)) text.spelling
+    ∙ ap (λ (l : List ℕ). (codes "p2entry 1" ++ 10 ∷ codes "path ") ++ l) (sym parts)
+    ∙ sym head)

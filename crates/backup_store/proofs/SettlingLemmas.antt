@@ -29,10 +29,10 @@ pub unsettled : (touch : Touch) (old mid new : Option Told)
 unsettled touch old mid new same touches stays synced touched =
     let set = on_both old mid (λ s t. SameBut touch.path s.now t.now) (Touches touch.path) (λ s t. SameBut touch.path s.now t.now × Touches touch.path s t) (λ s t first second. (first, second)) same touches in
     let still = on_both mid new (λ s t. t.now ≡ s.now) (λ s t. (t.synced ≡ s.synced) × (t.touched ≡ s.touched)) IsStill
-        (λ s t first second. record { now = first; synced = second.0; touched = second.1 })
-        stays (on_both mid new (λ s t. t.synced ≡ s.synced) (λ s t. t.touched ≡ s.touched) (λ s t. (t.synced ≡ s.synced) × (t.touched ≡ s.touched)) (λ s t first second. (first, second)) synced touched) in
+    (λ s t first second. record { now = first; synced = second.0; touched = second.1 })
+    stays (on_both mid new (λ s t. t.synced ≡ s.synced) (λ s t. t.touched ≡ s.touched) (λ s t. (t.synced ≡ s.synced) × (t.touched ≡ s.touched)) (λ s t first second. (first, second)) synced touched) in
     on_two old mid new (λ s t. SameBut touch.path s.now t.now × Touches touch.path s t) IsStill (IsUnsettled touch)
-      (λ s t u first second. unsettled_then touch s t u first.0 first.1 second) set still
+    (λ s t u first second. unsettled_then touch s t u first.0 first.1 second) set still
 
 contains_first : (path : List (List ℕ)) (rest : List (List (List ℕ))) (place : List (List ℕ)) → path ≡ place → Contains (path ∷ rest) place
 contains_first path rest place is = (0, omega arith, is)
@@ -43,9 +43,9 @@ touched_image path s t m touches image = record {
   formed = image.formed;
   untouched = λ place apart.
       image.untouched place (λ has. ⊎_elim
-        (λ old. apart (Contains-append_right (path ∷ []) s.touched place old))
-        (λ is. apart (contains_first path s.touched place (sym is)))
-        (touches.touched place has))
+      (λ old. apart (Contains-append_right (path ∷ []) s.touched place old))
+      (λ is. apart (contains_first path s.touched place (sym is)))
+      (touches.touched place has))
       ∙ ap (λ (f : Map). f place) touches.synced;
 }
 
@@ -56,9 +56,9 @@ Elapses-more first_is second_is first second = record {
   later = omega (arith, first.later, second.later);
   nothing_else = λ moment m earlier left.
       ⊎_elim
-        (λ so_far. ⊎_elim (λ was. inl was) (λ is. inr (first_is m is)) (first.nothing_else moment m earlier so_far))
-        (λ is. inr (second_is m is))
-        (second.nothing_else moment m (omega (arith, earlier, first.later)) left);
+      (λ so_far. ⊎_elim (λ was. inl was) (λ is. inr (first_is m is)) (first.nothing_else moment m earlier so_far))
+      (λ is. inr (second_is m is))
+      (second.nothing_else moment m (omega (arith, earlier, first.later)) left);
   keeps = λ moment m earlier left. second.keeps moment m (omega (arith, earlier, first.later)) (first.keeps moment m earlier left);
 }
 
@@ -69,7 +69,7 @@ pub settling_time : (path : List (List ℕ)) (old mid new : Option Told) (past b
     → Step old new (λ s t. Elapses s.moment t.moment past since (λ m. IsTouchedImage path s m ⊎ IsImage t m))
 settling_time path old mid new past between since touches first second =
     on_two old mid new (λ s t. Touches path s t × Elapses s.moment t.moment past between (IsImage t)) (λ s t. Elapses s.moment t.moment between since (IsImage t))
-      (λ s t. Elapses s.moment t.moment past since (λ m. IsTouchedImage path s m ⊎ IsImage t m))
-      (λ s t u both time. Elapses-more (λ m image. inl (touched_image path s t m both.0 image)) (λ m image. inr image) both.1 time)
-      (on_both old mid (Touches path) (λ s t. Elapses s.moment t.moment past between (IsImage t)) (λ s t. Touches path s t × Elapses s.moment t.moment past between (IsImage t)) (λ s t a b. (a, b)) touches first)
-      second
+    (λ s t. Elapses s.moment t.moment past since (λ m. IsTouchedImage path s m ⊎ IsImage t m))
+    (λ s t u both time. Elapses-more (λ m image. inl (touched_image path s t m both.0 image)) (λ m image. inr image) both.1 time)
+    (on_both old mid (Touches path) (λ s t. Elapses s.moment t.moment past between (IsImage t)) (λ s t. Touches path s t × Elapses s.moment t.moment past between (IsImage t)) (λ s t a b. (a, b)) touches first)
+    second

@@ -41,7 +41,7 @@ join_utf8 [] names = IsUtf8-nil
 join_utf8 (x ∷ []) names = (All-head IsName x [] names).utf8
 join_utf8 (x ∷ y ∷ path) names =
     IsUtf8-append x (47 ∷ path_text (y ∷ path)) (All-head IsName x (y ∷ path) names).utf8
-      (IsUtf8-append (47 ∷ []) (path_text (y ∷ path)) (IsUtf8-from_ascii (47 ∷ []) slash_ascii) (join_utf8 (y ∷ path) (All-tail IsName x (y ∷ path) names)))
+    (IsUtf8-append (47 ∷ []) (path_text (y ∷ path)) (IsUtf8-from_ascii (47 ∷ []) slash_ascii) (join_utf8 (y ∷ path) (All-tail IsName x (y ∷ path) names)))
 
 pub path_utf8 : (path : List (List ℕ)) → IsPath path → IsUtf8 (path_text path)
 path_utf8 path is = join_utf8 path is.names
@@ -83,8 +83,8 @@ escaped_short [] = omega arith
 escaped_short (b ∷ bytes) =
     let rest = escaped_short bytes in
     cond_holds (λ (l : List ℕ). length (l ++ flat_map field_byte bytes) ≤ 3 * length (b ∷ bytes)) (is_field_byte b) (b ∷ []) (37 ∷ hex_digit (b / 16) ∷ hex_digit (b % 16) ∷ [])
-      (λ is. omega (arith, rest))
-      (λ other. omega (arith, rest))
+    (λ is. omega (arith, rest))
+    (λ other. omega (arith, rest))
 
 field_short : (bytes : List ℕ) → length (field bytes) ≤ 3 * length bytes + 2
 field_short [] = omega arith

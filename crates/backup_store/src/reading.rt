@@ -128,7 +128,11 @@ fn read_mode(digits: [u8; 3]) -> Option<u16>
 {
     let [first, second, third] = digits;
     let mode = 64 * u16::from(first % 8) + 8 * u16::from(second % 8) + u16::from(third % 8);
-    if mode_digits(mode) == digits { Some(mode) } else { None }
+    if mode_digits(mode) == digits {
+        Some(mode)
+    } else {
+        None
+    }
 }
 
 /// Whether these are the digits of the content's length, which isn't above the limit.

@@ -22,8 +22,8 @@ mark-requires g c =
     let facts = on_both_told old (λ s. HasRoom s k) (λ s. HasNoMark k s.now) (λ s. HasRoom s k × HasNoMark k s.now) (λ s a b. (a, b)) c.requires.room none in
     let step = on_told old new (λ s. HasRoom s k × HasNoMark k s.now) (λ s t. IsEntered s k path t) (λ s t. (HasRoom s k × HasNoMark k s.now) × IsEntered s k path t) (λ s t a b. (a, b)) facts c.in_ok-enter.ensures.ok in
     on_new old new (λ s t. CanSet t.now (mark_path k)) (λ t. CanSet t.now (mark_path k)) (λ s t can. can)
-      (on_told_new old new (λ t. IsFormed t.now) (λ s t. (HasRoom s k × HasNoMark k s.now) × IsEntered s k path t) (λ s t. CanSet t.now (mark_path k))
-        (λ s t formed both. can_mark k path s t both.0.0 both.0.1 both.1 formed) formed step)
+    (on_told_new old new (λ t. IsFormed t.now) (λ s t. (HasRoom s k × HasNoMark k s.now) × IsEntered s k path t) (λ s t. CanSet t.now (mark_path k))
+    (λ s t formed both. can_mark k path s t both.0.0 both.0.1 both.1 formed) formed step)
 
 pub returns-clause-kept : goal.returns-clause-kept
 returns-clause-kept g c =
@@ -31,8 +31,8 @@ returns-clause-kept g c =
     let k = c.args.number.0 in
     let path = c.args.path.now in
     ok_map c.mark.result
-      (λ step. on_two (told c.args.folder.now) (told c.enter.new.folder) (told c.mark.new.folder) (λ s t. IsEntered s k path t) (IsSettled (mark_touch k)) (λ s t. IsKept s k path t) (kept_marked k path) c.in_ok-enter.ensures.ok step)
-      c.mark.ensures.ok
+    (λ step. on_two (told c.args.folder.now) (told c.enter.new.folder) (told c.mark.new.folder) (λ s t. IsEntered s k path t) (IsSettled (mark_touch k)) (λ s t. IsKept s k path t) (kept_marked k path) c.in_ok-enter.ensures.ok step)
+    c.mark.ensures.ok
 
 pub returns-clause-counted : goal.returns-clause-counted
 returns-clause-counted g c =
@@ -40,8 +40,8 @@ returns-clause-counted g c =
     let k = c.args.number.0 in
     let path = c.args.path.now in
     ok_map c.mark.result
-      (λ step. images_told (told c.args.folder.now) (told c.enter.new.folder) (told c.mark.new.folder) (λ s. IsCounted s k path) (λ s t. IsEntered s k path t) (IsSettled (mark_touch k)) (counted_marked k path) c.in_ok-enter.ensures.ok step)
-      c.mark.ensures.ok
+    (λ step. images_told (told c.args.folder.now) (told c.enter.new.folder) (told c.mark.new.folder) (λ s. IsCounted s k path) (λ s t. IsEntered s k path t) (IsSettled (mark_touch k)) (counted_marked k path) c.in_ok-enter.ensures.ok step)
+    c.mark.ensures.ok
 
 pub returns-clause-no_memory : goal.returns-clause-no_memory
 returns-clause-no_memory g c no_memory =
@@ -56,7 +56,7 @@ returns-clause-elsewhere g c =
     let mid = told c.enter.new.folder in
     let new = told c.mark.new.folder in
     on_two (told c.args.folder.now) mid new (λ s t. IsEntered s k path t) (IsEither (mark_touch k)) (λ s t. SameButEntry k s.now t.now) (marked_elsewhere k path) c.in_ok-enter.ensures.ok
-      (step_either mid new (IsSettled (mark_touch k)) (IsUnsettled (mark_touch k)) (either_way c.mark.result c.mark.ensures.ok c.mark.ensures.err))
+    (step_either mid new (IsSettled (mark_touch k)) (IsUnsettled (mark_touch k)) (either_way c.mark.result c.mark.ensures.ok c.mark.ensures.err))
 
 pub returns-clause-come : goal.returns-clause-come
 returns-clause-come g c =
@@ -80,6 +80,6 @@ returns-clause-leaves g c =
     let mid = told c.enter.new.folder in
     let new = told c.mark.new.folder in
     leaves_next (told c.args.folder.now) mid new (left c.args.folder.now) (left c.enter.new.folder) (left c.mark.new.folder) (λ s m. LeavesEntry s k path m) (λ s t m. IsTouchedImage (mark_path k) s m ⊎ IsImage t m)
-      (λ s t. IsEntered s k path t) (IsEither (mark_touch k)) (leaves_marked k path) c.in_ok-enter.ensures.ok
-      (step_either mid new (IsSettled (mark_touch k)) (IsUnsettled (mark_touch k)) (either_way c.mark.result c.mark.ensures.ok c.mark.ensures.err))
-      c.mark.ensures.time c.in_ok-enter.ensures.leaves
+    (λ s t. IsEntered s k path t) (IsEither (mark_touch k)) (leaves_marked k path) c.in_ok-enter.ensures.ok
+    (step_either mid new (IsSettled (mark_touch k)) (IsUnsettled (mark_touch k)) (either_way c.mark.result c.mark.ensures.ok c.mark.ensures.err))
+    c.mark.ensures.time c.in_ok-enter.ensures.leaves

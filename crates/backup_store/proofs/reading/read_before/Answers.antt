@@ -13,4 +13,4 @@ returns-then-eq c = nothing_found c.args.bytes.now ((slice_eq-Decides Decides-eq
 pub returns-in-None : goal.returns-in-None
 returns-in-None c =
     no_before c.args.bytes.now (λ is. both_ways _ c.if-eq.false ((slice_eq-Decides Decides-eqb _ _ _ c.eq.ensures).1 (is ∙ sym c.as_slice.ensures)))
-      (match_none (IsNoNodeBehind [] c.args.bytes.now) (IsNodeBehind [] c.args.bytes.now) c.in_ok-node.field-0 c.in-None.is c.in_ok-node.ensures)
+    (match_none (IsNoNodeBehind [] c.args.bytes.now) (IsNodeBehind [] c.args.bytes.now) c.in_ok-node.field-0 c.in-None.is c.in_ok-node.ensures)

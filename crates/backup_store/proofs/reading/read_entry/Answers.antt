@@ -14,7 +14,7 @@ returns-in_default-2 c =
     let lines = c.in-Some-split_line in
     let line = lines.field.now in
     no_entry_path c.args.bytes.now c.in-Some.rest.now line lines.node.now c.in-Some.ensures lines.ensures.parts lines.ensures.line
-      (match_none (IsNoPathField line) (IsPathField line) c.in_ok-path.field-0 c.in_default-2.is c.in_ok-path.ensures)
+    (match_none (IsNoPathField line) (IsPathField line) c.in_ok-path.field-0 c.in_default-2.is c.in_ok-path.ensures)
 
 pub returns-in-Some-3 : goal.returns-in-Some-3
 returns-in-Some-3 c =
@@ -22,12 +22,12 @@ returns-in-Some-3 c =
     let line = lines.field.now in
     let node = lines.node.now in
     entry_found c.args.bytes.now c.in-Some.rest.now line node c.in-Some-2.path c.in-Some-3.before c.in-Some.ensures lines.ensures.parts
-      (match_some (IsNoPathField line) (IsPathField line) c.in_ok-path.field-0 c.in-Some-2.path c.in-Some-2.is c.in_ok-path.ensures)
-      (match_some (IsNoNodeText node) (IsNodeText node) c.in_ok-before.field-0 c.in-Some-3.before c.in-Some-3.is c.in_ok-before.ensures)
+    (match_some (IsNoPathField line) (IsPathField line) c.in_ok-path.field-0 c.in-Some-2.path c.in-Some-2.is c.in_ok-path.ensures)
+    (match_some (IsNoNodeText node) (IsNodeText node) c.in_ok-before.field-0 c.in-Some-3.before c.in-Some-3.is c.in_ok-before.ensures)
 
 pub returns-in-None : goal.returns-in-None
 returns-in-None c =
     let lines = c.in-Some-split_line in
     let node = lines.node.now in
     no_entry_node c.args.bytes.now c.in-Some.rest.now lines.field.now node c.in-Some.ensures lines.ensures.parts lines.ensures.line
-      (match_none (IsNoNodeText node) (IsNodeText node) c.in_ok-before.field-0 c.in-None.is c.in_ok-before.ensures)
+    (match_none (IsNoNodeText node) (IsNodeText node) c.in_ok-before.field-0 c.in-None.is c.in_ok-before.ensures)

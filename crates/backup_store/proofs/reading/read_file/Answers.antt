@@ -14,7 +14,7 @@ returns-in_default-split_line c = no_file_line c.args.bytes.now c.in-Some.rest.n
 pub returns-then-not-branch : goal.returns-then-not-branch
 returns-then-not-branch c =
     no_file_count c.args.bytes.now c.in-Some.rest.now c.in-Some-split_line.count.now c.in-Some-split_line.content.now c.in-Some.mode c.in-Some.ensures.parts c.in-Some-split_line.ensures.parts c.in-Some-split_line.ensures.line
-      (λ both. not_true c.in_ok-is_count_of.field-0 c.if-not-branch.true (c.in_ok-is_count_of.ensures.1 both))
+    (λ both. not_true c.in_ok-is_count_of.field-0 c.if-not-branch.true (c.in_ok-is_count_of.ensures.1 both))
 
 pub returns : goal.returns
 returns c =
@@ -22,4 +22,4 @@ returns c =
     let counted = c.in_ok-is_count_of.ensures.0 (is_true c.in_ok-is_count_of.field-0 c.if-not-branch.false) in
     let same : parts.content.now ≡ c.in-Some-new.blob = sym (c.in-Some-new.ensures.1 ∙ c.from_vec.ensures ∙ c.in_ok-from_slice.ensures.items) in
     subst (λ b. IsNodeBehind (codes "file ") c.args.bytes.now (File c.in-Some.mode b)) same
-      (file_found c.args.bytes.now c.in-Some.rest.now parts.count.now parts.content.now c.in-Some.mode c.in-Some.ensures.mode c.in-Some.ensures.parts parts.ensures.parts counted.0 counted.1)
+    (file_found c.args.bytes.now c.in-Some.rest.now parts.count.now parts.content.now c.in-Some.mode c.in-Some.ensures.mode c.in-Some.ensures.parts parts.ensures.parts counted.0 counted.1)

@@ -5,7 +5,7 @@ pub returns-in_err-sync-clause-err : goal.returns-in_err-sync-clause-err
 returns-in_err-sync-clause-err g c =
     let told = g.F.Folder.told in
     on_err c.from_residual-in_err-sync.result
-      (unsettled c.args.touch.now (told c.args.folder.now) (told c.set.new.self) (told c.sync.new.self) c.set.ensures.elsewhere c.set.ensures.crash c.sync.ensures.stays c.in_err-sync.ensures.failed c.in_err-sync.ensures.untouched)
+    (unsettled c.args.touch.now (told c.args.folder.now) (told c.set.new.self) (told c.sync.new.self) c.set.ensures.elsewhere c.set.ensures.crash c.sync.ensures.stays c.in_err-sync.ensures.failed c.in_err-sync.ensures.untouched)
 
 pub returns-in_err-sync-clause-time : goal.returns-in_err-sync-clause-time
 returns-in_err-sync-clause-time g c =

@@ -80,7 +80,7 @@ fn entry_in(alloc: Global, node: Option<Node>) -> Result<Option<Entry>, NoMemory
 }
 
 /// Whether the path neither is `.p2` nor lies below it.
-fn is_outside(path: &Path) -> bool
+pub(crate) fn is_outside(path: &Path) -> bool
     ensures { IsTrue result ↔ IsOutside path.now }
 {
     match path.names().items() {

@@ -1,0 +1,270 @@
+use super::*;
+use crate::places::{entry_path, mark_path};
+use crate::putting_back::is_outside;
+use folder_core::{Blob, Failed, Folder, FolderError, Name, Node, Path, Touch};
+use folder_memory::MemoryFolder;
+use osgi_version::{List, NoMemory, Text};
+use std::alloc::Global;
+use std::test::Fail;
+
+/// A folder in memory that tells nothing.
+#[derive(Drop)]
+struct Quiet {
+    inner: MemoryFolder,
+}
+
+impl Folder for Quiet {
+    ghost use Rattle.std.specs.Prelude.{None};
+    ghost use Rattle.folder_memory.specs.Memory.{schedule_of};
+
+    ghost told = { λ _. None };
+
+    ghost left_since = { λ _ _ _. ⊥ };
+
+    ghost faults = { λ f. (schedule_of f.inner).faults };
+
+    ghost image_now = { λ _. tt };
+
+    ghost counts_now = { λ _. tt };
+
+    ghost only_now = { λ _. tt };
+
+    fn look(&mut self, alloc: Global, path: &Path) -> Result<Option<Node>, FolderError> {
+        self.inner.look(alloc, path)
+    }
+
+    fn kids(&mut self, alloc: Global, path: &Path) -> Result<List<Name>, FolderError> {
+        self.inner.kids(alloc, path)
+    }
+
+    /// A `set` that isn't allowed is refused.
+    fn set(&mut self, path: &Path, node: Option<&Node>) -> Result<(), FolderError> {
+        if !self.inner.can_set(path) {
+            return Err(FolderError::NoMemory);
+        }
+        self.inner.set(path, node)
+    }
+
+    fn sync(&mut self) -> Result<(), Failed> {
+        self.inner.sync()
+    }
+}
+
+fn path_of(alloc: Global, text: &str) -> Result<Path, Fail> {
+    Ok(Path::read(alloc, &Text::from_str(alloc, text)?)?.ok_or("no path")?)
+}
+
+fn file_of(alloc: Global, mode: u16, bytes: &[u8]) -> Result<Node, Fail> {
+    let blob = Blob::new(List::from_vec(Vec::from_slice(alloc, bytes)?)).ok_or("no blob")?;
+    Ok(Node::File { mode, blob })
+}
+
+fn link_of(alloc: Global, target: &str) -> Result<Node, NoMemory> {
+    let target = Text::from_str(alloc, target)?;
+    Ok(Node::Link { target })
+}
+
+// Nothing for "", a directory for "/", a link for "@..", and else a file.
+fn node_of(alloc: Global, kind: &str) -> Result<Option<Node>, Fail> {
+    match kind {
+        "" => Ok(None),
+        "/" => Ok(Some(Node::Dir)),
+        "@" => Ok(Some(link_of(alloc, "d/\u{e9} %")?)),
+        bytes => Ok(Some(file_of(alloc, 0o755, bytes.as_bytes())?)),
+    }
+}
+
+fn put(folder: &mut Quiet, path: &Path, node: Option<&Node>) -> Result<(), Fail> {
+    if node.is_none_or(|node| node.may_stand_at(path)) {
+        folder.set(path, node)?;
+        return Ok(());
+    }
+    Err("no such node")?
+}
+
+// A folder with a directory for entries.
+fn journal(alloc: Global) -> Result<Quiet, Fail> {
+    let mut folder = Quiet {
+        inner: MemoryFolder::new(alloc),
+    };
+    for at in [".p2", ".p2/e"] {
+        put(&mut folder, &path_of(alloc, at)?, Some(&Node::Dir))?;
+    }
+    folder.inner.sync()?;
+    Ok(folder)
+}
+
+// A path that mayn't be kept is refused.
+fn keep_at(alloc: Global, folder: &mut Quiet, number: u32, path: &Path) -> Result<(), StoreFault> {
+    if path.names().is_empty() || !is_outside(path) {
+        return Err(StoreFault::NoMemory);
+    }
+    keep(alloc, folder, EntryNumber(number), path)
+}
+
+#[test]
+fn entries_are_read(rt: HostRuntime) -> Result<(), Fail> {
+    let alloc = rt.alloc();
+    let cases: [(&[u8], bool); 30] = [
+        (b"p2entry 1\n", false),
+        (b"", false),
+        (b"p2entry 1\npath installs/ide/f\nnone\n", true),
+        (b"p2entry 1\npath installs/ide/f\nnone", false),
+        (b"p2entry 1\npath installs/ide/f\nnone\n\n", false),
+        (b"p2entry 2\npath installs/ide/f\nnone\n", false),
+        (b"p2entry 1\npath a b\nnone\n", false),
+        (b"p2entry 1\npath a%20b\ndir\n", true),
+        (b"p2entry 1\npath caf%C3%A9\ndir\n", true),
+        (b"p2entry 1\npath caf%c3%a9\ndir\n", false),
+        (b"p2entry 1\npath caf%C3\ndir\n", false),
+        (b"p2entry 1\npath %61\ndir\n", false),
+        (b"p2entry 1\npath a//b\ndir\n", false),
+        (b"p2entry 1\npath %-\ndir\n", true),
+        (b"p2entry 1\npath .p2/undo\ndir\n", true),
+        (b"p2entry 1\npath a\nlink %-\n", true),
+        (b"p2entry 1\npath a\nlink b%25\n", true),
+        (b"p2entry 1\npath a\nlink b%\n", false),
+        (b"p2entry 1\npath a\nlink b\nc", false),
+        (b"p2entry 1\npath a\nlink \n", false),
+        (b"p2entry 1\npath a\nfile 644 0\n", true),
+        (b"p2entry 1\npath a\nfile 777 3\n\n\xFF\0", true),
+        (b"p2entry 1\npath a\nfile 644 4\nabc", false),
+        (b"p2entry 1\npath a\nfile 644 2\nabc", false),
+        (b"p2entry 1\npath a\nfile 644 03\nabc", false),
+        (b"p2entry 1\npath a\nfile 648 3\nabc", false),
+        (b"p2entry 1\npath a\nfile 64 3\nabc", false),
+        (b"p2entry 1\npath a\nfile 0644 3\nabc", false),
+        (b"p2entry 1\npath a\nfile 644  3\nabc", false),
+        (b"p2entry 1\npath a\r\ndir\n", false),
+    ];
+    for (place, (bytes, want)) in cases.iter().enumerate() {
+        let entry = read_entry(alloc, bytes)?;
+        assert_eq!(rt; entry.is_some(), *want, "case {place}");
+    }
+    Ok(())
+}
+
+#[test]
+fn a_file_is_written_and_read(rt: HostRuntime) -> Result<(), Fail> {
+    let alloc = rt.alloc();
+    let entry = Entry {
+        path: path_of(alloc, "a b/c")?,
+        before: Some(file_of(alloc, 0o604, b"\n\0ok")?),
+    };
+    let text = write_entry(alloc, &entry)?;
+    assert!(rt; text.bytes() == b"p2entry 1\npath a%20b/c\nfile 604 4\n\n\0ok".as_slice());
+    assert!(rt; read_entry(alloc, text.bytes())? == Some(entry));
+    Ok(())
+}
+
+#[test]
+fn a_link_is_written_and_read(rt: HostRuntime) -> Result<(), Fail> {
+    let alloc = rt.alloc();
+    let entry = Entry {
+        path: path_of(alloc, "a")?,
+        before: Some(link_of(alloc, "")?),
+    };
+    let text = write_entry(alloc, &entry)?;
+    assert!(rt; text.bytes() == b"p2entry 1\npath a\nlink %-\n".as_slice());
+    assert!(rt; read_entry(alloc, text.bytes())? == Some(entry));
+    Ok(())
+}
+
+#[test]
+fn what_stood_there_is_put_back(rt: HostRuntime) -> Result<(), Fail> {
+    let alloc = rt.alloc();
+    let mut folder = journal(alloc)?;
+    let path = path_of(alloc, "a")?;
+    let kinds = ["", "/", "@", "text", ""];
+    for (place, pair) in kinds.windows(2).enumerate() {
+        let before = node_of(alloc, pair[0])?;
+        put(&mut folder, &path, before.as_ref())?;
+        keep_at(alloc, &mut folder, place as u32 + 1, &path)?;
+        put(&mut folder, &path, node_of(alloc, pair[1])?.as_ref())?;
+        put_back(alloc, &mut folder, EntryNumber(place as u32 + 1))?;
+        assert!(rt;
+            folder.inner.node(&path) == before.as_ref(),
+            "entry {place}"
+        );
+    }
+    Ok(())
+}
+
+// Whether the entry and its mark stand now, and whether the mark stands in the image of what was synced.
+fn stands(alloc: Global, folder: &Quiet, number: u32) -> Result<(bool, bool, bool), Fail> {
+    let entry = entry_path(alloc, EntryNumber(number))?;
+    let mark = mark_path(alloc, EntryNumber(number))?;
+    let image = folder.inner.image(alloc, &List::new(alloc))?;
+    Ok((
+        folder.inner.node(&entry).is_some(),
+        folder.inner.node(&mark).is_some(),
+        image.node(&mark).is_some(),
+    ))
+}
+
+#[test]
+fn a_stopped_entry_counts_only_at_the_end(rt: HostRuntime) -> Result<(), Fail> {
+    let alloc = rt.alloc();
+    let cases = [
+        (0, (false, false, false)),
+        (1, (false, false, false)),
+        (2, (true, false, false)),
+        (3, (true, false, false)),
+        (4, (true, true, false)),
+        (5, (true, true, true)),
+    ];
+    for (passes, want) in cases {
+        let mut folder = journal(alloc)?;
+        folder.inner.fuse(passes);
+        let kept = keep_at(alloc, &mut folder, 7, &path_of(alloc, "a")?);
+        let ends = if passes == 5 {
+            Ok(())
+        } else {
+            Err(StoreFault::Failed)
+        };
+        assert_eq!(rt; kept, ends, "{passes} calls");
+        assert_eq!(rt; stands(alloc, &folder, 7)?, want, "{passes} calls");
+    }
+    Ok(())
+}
+
+#[test]
+fn an_image_with_the_mark_has_the_entry(rt: HostRuntime) -> Result<(), Fail> {
+    let alloc = rt.alloc();
+    let mut folder = journal(alloc)?;
+    folder.inner.fuse(4);
+    let kept = keep_at(alloc, &mut folder, 1, &path_of(alloc, "a")?);
+    assert_eq!(rt; kept, Err(StoreFault::Failed));
+    let mut choice = List::new(alloc);
+    choice.push(Touch {
+        path: mark_path(alloc, EntryNumber(1))?,
+        node: Some(file_of(alloc, 0o644, b"ok\n")?),
+    })?;
+    let image = folder.inner.image(alloc, &choice)?;
+    let text = file_of(alloc, 0o644, b"p2entry 1\npath a\nnone\n")?;
+    assert!(rt; image.node(&entry_path(alloc, EntryNumber(1))?) == Some(&text));
+    Ok(())
+}
+
+#[test]
+fn damage_is_named(rt: HostRuntime) -> Result<(), Fail> {
+    let alloc = rt.alloc();
+    let mut folder = journal(alloc)?;
+    let place = entry_path(alloc, EntryNumber(3))?;
+    let kinds = [
+        "",
+        "/",
+        "@",
+        "p2entry 1\n",
+        "p2entry 1\npath .p2\ndir\n",
+        "p2entry 1\npath .p2/e/3\nnone\n",
+    ];
+    for (case, kind) in kinds.iter().enumerate() {
+        put(&mut folder, &place, node_of(alloc, kind)?.as_ref())?;
+        match put_back(alloc, &mut folder, EntryNumber(3)) {
+            Err(StoreFault::Damaged { path }) => assert!(rt; path == place, "case {case}"),
+            _ => assert!(rt; false, "case {case}"),
+        }
+    }
+    Ok(())
+}

@@ -1,6 +1,4 @@
 pub mod Bools
-pub mod Bytes
-pub mod Fields
 pub mod Fronts
 pub mod KeepingLemmas
 pub mod Moments

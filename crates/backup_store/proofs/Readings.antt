@@ -3,15 +3,14 @@ use Rattle.std.proofs.Common.{◌≡◌, ◌≢◌, ℕ, zero, suc, ◌+◌, ◌
 use Rattle.std.specs.Prelude.{codes, IfSome, MatchOption, Result, Ok, Err, IfOk}
 use Rattle.std.specs.Fmt.{decimal}
 use Rattle.std.specs.Str.{IsUtf8}
-use Rattle.osgi_version.specs.Field.{field}
+use Rattle.osgi_version.specs.Field.{field, IsFieldOf, IsNoField}
 use Rattle.folder_core.specs.Path.{IsPath, IsPathOf, HasNoPath, path_text}
 use Rattle.folder_core.specs.declared.node.Node.{Node}
 use Rattle.folder_core.specs.declared.node.Node.TheVariants.{File, Dir, Link}
 use Rattle.backup_store.specs.Entry.{IsOldNode, IsEntry, IsEntryOf, IsNoEntry}
 use Rattle.backup_store.specs.EntryText.{node_text, entry_text, mode_digits}
 use Rattle.backup_store.specs.Parts.{IsPathField, IsNoPathField, IsNodeText, IsNoNodeText, IsNodeBehind, IsNoNodeBehind}
-use Rattle.backup_store.specs.Unescaped.{IsFieldOf, IsNoField}
-use Rattle.backup_store.proofs.Fields.{field_injective, no_lf_field}
+use Rattle.osgi_version.proofs.Fields.{field_injective, no_lf_field}
 use Rattle.backup_store.proofs.Fronts.{same_lines, contains_in_middle, differ}
 use Rattle.backup_store.proofs.Texts.{no_lf_decimal, path_utf8}
 use Rattle.backup_store.proofs.Unique.{byte_at, IsEntryOf-text}

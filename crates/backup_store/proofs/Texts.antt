@@ -14,7 +14,7 @@ use Rattle.folder_core.specs.declared.node.Node.{Node}
 use Rattle.folder_core.specs.declared.node.Node.TheVariants.{File, Dir, Link}
 use Rattle.backup_store.specs.Entry.{IsOldNode, IsEntry}
 use Rattle.backup_store.specs.EntryText.{node_text, entry_text, mode_digits}
-use Rattle.backup_store.proofs.Bytes.{cond_holds}
+use Rattle.osgi_version.proofs.Bytes.{cond_holds}
 use Rattle.backup_store.proofs.Fronts.{same_parts, contains_cut}
 
 -- decimal digits

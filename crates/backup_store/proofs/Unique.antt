@@ -11,7 +11,7 @@ use Rattle.backup_store.specs.Entry.{IsOldNode, IsEntry, IsEntryOf}
 use Rattle.backup_store.specs.EntryText.{node_text, entry_text, mode_digits}
 use Rattle.backup_store.specs.Held.{HoldsEntry}
 use Rattle.backup_store.specs.Places.{entry_path}
-use Rattle.backup_store.proofs.Fields.{field_injective, no_lf_field}
+use Rattle.osgi_version.proofs.Fields.{field_injective, no_lf_field}
 use Rattle.backup_store.proofs.Fronts.{same_lines, differ}
 use Rattle.backup_store.proofs.Texts.{no_lf_decimal, path_injective, path_utf8}
 

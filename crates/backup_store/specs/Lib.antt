@@ -7,4 +7,3 @@ pub mod Parts
 pub mod Places
 pub mod PuttingBack
 pub mod Settling
-pub mod Unescaped

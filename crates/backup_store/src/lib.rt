@@ -4,7 +4,6 @@
 
 mod entry;
 mod fault;
-mod field;
 mod keeping;
 mod lines;
 mod places;

@@ -5,11 +5,10 @@ ghost use Rattle.backup_store.specs.EntryText.{mode_digits};
 ghost use Rattle.backup_store.specs.Parts.{IsPathField, IsNoPathField, IsNodeText, IsNoNodeText, IsNodeBehind, IsNoNodeBehind};
 
 use crate::entry::Entry;
-use crate::field::read_field;
 use crate::lines::{behind, only_line, split_line};
 use crate::writing::mode_digits;
 use folder_core::{Blob, Node, Path};
-use osgi_version::{List as Bytes, NoMemory, push_number};
+use osgi_version::{List as Bytes, NoMemory, push_number, read_field};
 use std::alloc::Global;
 
 const MOST_TARGET: usize = 4096;

@@ -11,6 +11,5 @@ pub mod Reading
 pub mod Sound
 pub mod Terms
 pub mod Trail
-pub mod Unescaped
 pub mod Used
 pub mod Verdict

@@ -1,5 +1,5 @@
 use Rattle.std.proofs.Common.{ap, arith, length}
-use Rattle.backup_store.specs.Unescaped.{IsFieldOf, IsNoField}
+use Rattle.osgi_version.specs.Field.{IsFieldOf, IsNoField}
 use Rattle.backup_store.proofs.Fronts.{match_none, match_some}
 use Rattle.backup_store.proofs.Readings.{no_link_line, no_link_field, no_link_long, link_found}
 use Rattle.backup_store.proofs.reading.read_link.Goals as goal

@@ -1,4 +1,4 @@
-use Rattle.backup_store.specs.Unescaped.{IsFieldOf, IsNoField}
+use Rattle.osgi_version.specs.Field.{IsFieldOf, IsNoField}
 use Rattle.backup_store.proofs.Fronts.{match_none, match_some}
 use Rattle.backup_store.proofs.Readings.{no_path_field, path_read}
 use Rattle.backup_store.proofs.reading.read_path.Goals as goal

@@ -1,8 +1,7 @@
 -- The files of a tree, before and after one is put.
-use Rattle.std.proofs.Common.{◌≡◌, ◌≢◌, ◌⊎◌, ◌↔◌, inl, inr, ℕ, Bool, true, false, not, cond, IsTrue, List, [], ◌∷◌, ◌++◌, Option, Some, None, length, refl, sym, ◌∙◌, ap, subst, arith, length-append, append_assoc}
+use Rattle.std.proofs.Common.{◌≡◌, ◌≢◌, ◌⊎◌, ◌↔◌, inl, inr, ℕ, Bool, true, false, not, cond, IsTrue, List, [], ◌∷◌, ◌++◌, Option, Some, None, length, refl, sym, ◌∙◌, ap, subst, arith, length-append}
 use Rattle.std.specs.declared.cmp.Ordering.TheVariants.{Greater}
 use Rattle.std.specs.BTreeMap.{BTreeMap, get, is_at}
-use Rattle.std.specs.Map.{lookup}
 use Rattle.std.specs.Option.{IsSome}
 use Rattle.std.proofs.lemmas.Bool.{false≢true}
 use Rattle.std.proofs.lemmas.List.{append-nil}
@@ -11,7 +10,7 @@ use Rattle.folder_core.specs.Path.{IsPath, IsBelow}
 use Rattle.folder_core.specs.PathOrder.{path_cmp}
 use Rattle.folder_core.specs.Tree.{Files, AreFiles, HasBelow}
 use Rattle.folder_core.proofs.Maps.{changed_other, same_path}
-use Rattle.folder_memory.specs.Files.{no_files, files_of, put_at, HasFileAbove, HasRoom}
+use Rattle.folder_memory.specs.Files.{files_of, put_at, HasFileAbove, HasRoom}
 use Rattle.folder_memory.specs.Places.{HasFrom, IsLastBefore, NothingBefore}
 use Rattle.folder_memory.specs.Places as places
 use Rattle.folder_memory.proofs.Order.{before_not_after, below_is_after, between, not_before}

@@ -1,25 +1,23 @@
 -- What stood at the last sync, and what choices make of it.
 use Rattle.std.specs.Prelude.{map}
-use Rattle.std.proofs.Common.{◌≡◌, ◌≢◌, ◌⊎◌, inl, inr, ⊎_elim, ℕ, zero, suc, ◌+◌, ◌<◌, ◌≤◌, Bool, true, false, List, [], ◌∷◌, ◌++◌, Bor, length, take, drop, get_or, Option, Some, None, IsTrue, All, refl, sym, ◌∙◌, ap, subst, arith}
+use Rattle.std.proofs.Common.{◌≡◌, ◌≢◌, ◌⊎◌, inl, inr, ⊎_elim, ℕ, zero, suc, ◌+◌, ◌<◌, List, [], ◌∷◌, ◌++◌, Bor, length, take, drop, get_or, Option, Some, None, refl, sym, ◌∙◌, ap, subst, arith}
 use Rattle.std.specs.List.{Contains, ContainsAt, fold}
 use Rattle.std.specs.Option.{IsSome}
-use Rattle.std.specs.BTreeMap.{BTreeMap, get, keys}
+use Rattle.std.specs.BTreeMap.{BTreeMap, keys}
 use Rattle.std.specs.Map.Iter.{deref}
 use Rattle.std.proofs.Math.Logic.{∥∥₁_elim, ∥∥₁_map}
-use Rattle.std.proofs.lemmas.Bool.{false≢true}
 use Rattle.std.proofs.lemmas.List.{get_or_default, take-append-drop}
 use Rattle.std.proofs.lemmas.List.Sums.{fold_push}
 use Rattle.folder_core.specs.Crash.{IsImage}
 use Rattle.folder_core.specs.Folder.{Map, Told, IsFormed, set_at}
 use Rattle.folder_core.specs.Path.{IsPath}
 use Rattle.folder_core.specs.Node.{IsNode, IsSmallAt}
-use Rattle.folder_core.specs.PathOrder.{path_cmp}
 use Rattle.folder_core.specs.declared.node.Node.{Node}
 use Rattle.folder_core.specs.declared.node.Node.TheVariants.{Dir}
 use Rattle.folder_core.specs.declared.node.Touch.{Touch}
-use Rattle.folder_core.proofs.Maps.{changed_here, changed_other, same_path}
+use Rattle.folder_core.proofs.Maps.{changed_other, same_path}
 use Rattle.folder_core.proofs.Paths.{IsPath-nil}
-use Rattle.folder_memory.specs.Formed.{StandsWell, IsWellAt}
+use Rattle.folder_memory.specs.Formed.{IsWellAt}
 use Rattle.folder_memory.specs.Image.{AreTouched, IsChoiceOf, IsFirstUntouched, chosen_of, set_all}
 use Rattle.folder_memory.specs.Moments.{contains_front, state_of-push}
 use Rattle.folder_memory.specs.Nodes.{map_of}

@@ -1,6 +1,6 @@
 -- The places in a map, and those that a loop over them has seen.
 use Rattle.std.specs.Prelude.{map}
-use Rattle.std.proofs.Common.{◌≡◌, inl, inr, ℕ, zero, suc, Option, Some, None, Bool, List, [], ◌∷◌, ◌++◌, Bor, Ordering, IsTrue, refl, sym, ◌∙◌, ap, subst, arith}
+use Rattle.std.proofs.Common.{◌≡◌, inl, inr, ℕ, zero, suc, List, [], ◌∷◌, Bor, Ordering, sym, ◌∙◌, ap, subst, arith}
 use Rattle.std.specs.List.{Contains}
 use Rattle.std.specs.Option.{IsSome}
 use Rattle.std.specs.Ordering.{nat_cmp, is_eq}
@@ -9,14 +9,11 @@ use Rattle.std.specs.Map.Iter.{deref}
 use Rattle.std.specs.Cmp.Lexicographic.{slice_cmp, lists_ties, texts_ties}
 use Rattle.std.proofs.lemmas.Map.Lookups.{CmpEqualImpliesEq}
 use Rattle.std.proofs.lemmas.Map.Views.{btree_map_contains_key_iff}
-use Rattle.folder_core.specs.Name.{AreThose}
-use Rattle.folder_core.specs.Path.{IsBelow, path_eqb}
+use Rattle.folder_core.specs.Path.{path_eqb}
 use Rattle.folder_core.specs.PathOrder.{path_cmp}
-use Rattle.folder_core.specs.declared.node.Node.{Node}
 use Rattle.folder_core.proofs.Maps.{path_eqb-Decides}
 use Rattle.folder_core.proofs.PathOrder.{path_cmp_total}
-use Rattle.folder_memory.specs.Moments.{contains_middle}
-use Rattle.folder_memory.proofs.Kids.{AnyOf, Gathers}
+use Rattle.folder_memory.proofs.Kids.{AnyOf}
 
 abbrev Place : Type 0
 Place = List (List ℕ)

@@ -1,5 +1,5 @@
 -- What stands where, in a map in the order of paths.
-use Rattle.std.specs.Prelude.{◌≡◌, ℕ, List, [], ◌∷◌, ◌++◌, Some, IsSome}
+use Rattle.std.specs.Prelude.{◌≡◌, ℕ, List, ◌++◌, Some, IsSome}
 use Rattle.std.specs.BTreeMap.{BTreeMap, get}
 use Rattle.folder_core.specs.Path.{IsBelow}
 use Rattle.folder_core.specs.PathOrder.{path_cmp, IsPathBefore}

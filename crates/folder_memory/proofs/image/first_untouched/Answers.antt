@@ -1,4 +1,4 @@
-use Rattle.std.proofs.Common.{get_or, sym, ◌∙◌, subst, below_more}
+use Rattle.std.proofs.Common.{get_or, ◌∙◌, subst, below_more}
 use Rattle.std.specs.List.{Contains}
 use Rattle.std.proofs.lemmas.List.{get_or_default}
 use Rattle.folder_core.specs.declared.node.Touch.{Touch}

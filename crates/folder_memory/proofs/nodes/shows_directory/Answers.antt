@@ -2,7 +2,6 @@ use Rattle.std.proofs.Common.{◌≡◌, ◌==◌, List, ℕ, [], length, not, B
 use Rattle.std.proofs.lemmas.Bool.{false≢true}
 use Rattle.std.proofs.lemmas.List.{append_cancel_left}
 use Rattle.std.proofs.lemmas.Slice.Eq.{strip_prefix_is, bytes_eq-Decides}
-use Rattle.folder_core.specs.declared.node.Node.TheVariants.{Dir}
 use Rattle.folder_memory.proofs.States.{none_there}
 use Rattle.folder_memory.proofs.nodes.shows_directory.Goals as goal
 

@@ -1,7 +1,6 @@
-use Rattle.std.proofs.Common.{◌≡◌, List, sym, ◌∙◌, subst}
+use Rattle.std.proofs.Common.{subst}
 use Rattle.std.specs.List.{Contains}
-use Rattle.folder_memory.specs.declared.history.Event.TheVariants.{Set}
-use Rattle.folder_memory.proofs.Images.{no_root_had, recorded, replayed, after_sync}
+use Rattle.folder_memory.proofs.Images.{no_root_had, recorded}
 use Rattle.folder_memory.proofs.history.History.synced.Goals as goal
 
 pub set-requires : goal.set-requires

@@ -176,3 +176,20 @@ fn links_have_a_limit(rt: HostRuntime) -> Result<(), Fail> {
     }
     Ok(())
 }
+
+#[test]
+fn values_are_copied(rt: HostRuntime) -> Result<(), Fail> {
+    let alloc = rt.alloc();
+    let blob = Blob::new(List::from_vec(b"abc".to_vec(alloc)?)).ok_or("no blob")?;
+    let twin = blob.copy()?;
+    assert_eq!(rt; twin.bytes(), b"abc".as_slice());
+    let nodes = [Node::File { mode: 0o644, blob }, Node::Dir];
+    for node in nodes.iter() {
+        let twin = node.copy()?;
+        assert!(rt; twin == *node);
+    }
+    for after in [After::Unchanged, After::Recover, After::Either] {
+        assert!(rt; after.copy()? == after);
+    }
+    Ok(())
+}

@@ -8,7 +8,7 @@ use super::*;
 use folder_core::{
     Blob, Failed, Folder, FolderError, Input, Name, Node, Path, Sink, Touch, Tree, TreeError,
 };
-use osgi_version::{List, NoMemory, Text};
+use osgi_version::{List, NoMemory, Text, Twin};
 use std::alloc::Global;
 use std::test::Fail;
 
@@ -419,6 +419,22 @@ fn an_image_is_refused(rt: HostRuntime) -> Result<(), Fail> {
             folder.image(alloc, &choice).err() == Some(want),
             "not {want:?}"
         );
+    }
+    Ok(())
+}
+
+#[test]
+fn refusals_are_copied(rt: HostRuntime) -> Result<(), Fail> {
+    let faults = [
+        ImageFault::NotTouched { place: 3 },
+        ImageFault::NotWellFormed,
+        ImageFault::NoMemory,
+    ];
+    for fault in faults {
+        assert!(rt; fault.copy()? == fault);
+    }
+    for fault in [PutFault::NotAFolder, PutFault::NoMemory] {
+        assert!(rt; fault.copy()? == fault);
     }
     Ok(())
 }

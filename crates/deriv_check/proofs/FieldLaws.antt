@@ -22,7 +22,7 @@ text_bytes bytes h = each_byte bytes (AreBytes-utf8 bytes h)
 one_field : (word : List ℕ) (found : Option (List ℕ)) → MatchOption found (IsNoField word) (IsFieldOf word) → Reading IsUtf8 field word found
 one_field word None none = λ text utf8 e. none text utf8 (sym e)
 one_field word (Some text) is =
-    (is.utf8, (sym is.spelling, λ other utf8 e. field_injective other text utf8 is.utf8 (sym e ∙ sym is.spelling)))
+    (is.utf8, sym is.spelling, λ other utf8 e. field_injective other text utf8 is.utf8 (sym e ∙ sym is.spelling))
 
 pub field_reading : {E : Type 0} (word : List ℕ) (read : Result (Option (List ℕ)) E) → IfOk read (λ found. MatchOption found (IsNoField word) (IsFieldOf word))
     → IfOk read (Reading IsUtf8 field word)

@@ -1,5 +1,5 @@
 -- The units of a p2.inf are in form.
-use Rattle.std.proofs.Common.{◌≡◌, ℕ, ◌-◌, ◌==◌, ◌&&◌, ◌||◌, not, nat_lt, Bool, true, false, List, [], ◌∷◌, ◌++◌, length, All, IfSome, Option, Some, None, option_and_then, is_none, Result, Ok, Err, codes, if◌then◌else◌, refl, sym, subst, fold, lit≤}
+use Rattle.std.proofs.Common.{◌≡◌, ℕ, ◌-◌, ◌==◌, ◌&&◌, ◌||◌, not, nat_lt, Bool, true, false, List, [], ◌∷◌, ◌++◌, length, All, IfSome, Option, Some, None, option_and_then, is_none, Result, Ok, Err, codes, if◌then◌else◌, refl, subst, fold, lit≤}
 use Rattle.std.specs.Prelude.{⊤}
 use Rattle.std.specs.List.{list_any}
 use Rattle.std.specs.Str.{bytes_eq}
@@ -16,7 +16,6 @@ use Rattle.unit_model.specs.declared.name.UnitName.{UnitName}
 use Rattle.unit_model.specs.declared.unit.Unit.{Unit}
 use Rattle.unit_model.specs.declared.update.Update.{Update}
 use Rattle.unit_model.specs.declared.provided.Provided.{Provided}
-use Rattle.unit_model.specs.declared.required.Required.{Required}
 use Rattle.inf_reader.specs.declared.class.Class.{Class}
 use Rattle.inf_reader.specs.declared.class.Class.TheVariants as class
 use Rattle.inf_reader.specs.declared.entries.Entry.{Entry}

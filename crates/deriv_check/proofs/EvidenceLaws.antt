@@ -172,9 +172,10 @@ pub spare_derivation_is : IsDerivation (record { lines = [] })
 spare_derivation_is = record { few_lines = omega arith; lines = All-nil _ }
 
 pub spare_variables_are : (counts : ℕ × ℕ) → AreVariables counts (replicate counts.0 [], replicate counts.1 (record { terms = []; degree = 1; origin = origin.Root [] }))
-spare_variables_are counts =
-    ((length-replicate counts.0 [], All-replicate IsUtf8 counts.0 [] IsUtf8-nil),
-     (length-replicate counts.1 spare_constraint, All-replicate (IsConstraintOver (replicate counts.0 [])) counts.1 spare_constraint (no_constraint_over (replicate counts.0 []))))
+spare_variables_are counts = (
+  (length-replicate counts.0 [], All-replicate IsUtf8 counts.0 [] IsUtf8-nil),
+  (length-replicate counts.1 spare_constraint, All-replicate (IsConstraintOver (replicate counts.0 [])) counts.1 spare_constraint (no_constraint_over (replicate counts.0 []))),
+)
 
 -- a first line, and what stands behind it
 pub head_empty : {H R P : Type 0} (ValidH : H → Type 0) (line : H → List ℕ) (ValidR : H → R → Type 0) (spell_r : R → List (List ℕ)) (ValidP : P → Type 0) (spell_p : P → List (List ℕ)) (to : H × R → P) (from : P → H × R)

@@ -46,7 +46,7 @@ more_only {X} Valid spell found x only one (z ∷ zs) all e =
     let s = snoc z zs in
     let parts = All-pop Valid (z ∷ zs) s.front (Some s.last) s.is all in
     let both : map spell s.front ++ spell s.last ∷ [] ≡ map spell found ++ spell x ∷ [] =
-        sym (map_push spell s.front s.last) ∙ ap (map spell) (sym s.is) ∙ e ∙ map_push spell found x in
+    sym (map_push spell s.front s.last) ∙ ap (map spell) (sym s.is) ∙ e ∙ map_push spell found x in
     let same = same_from_push (map spell s.front) (map spell found) (spell s.last) (spell x) both in
     let front : s.front ≡ found = only s.front parts.0 same.0 in
     let last : s.last ≡ x = one s.last parts.1 (sym same.1) in

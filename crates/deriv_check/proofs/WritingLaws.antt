@@ -173,7 +173,7 @@ evidence_written e t0 t1 t2 t3 t4 t5 e0 e1 e2 e3 e4 e5 =
     let f4 : t4 ≡ ((p ++ l) ++ c) ++ d = e4 ∙ ap (λ (t : List ℕ). t ++ d) f3 in
     let f5 : t5 ≡ (((p ++ l) ++ c) ++ d) ++ k = e5 ∙ (λ i. f4 i ++ flat_ended derived_line e.derivation.lines i) in
     let inner : ended (map label_line e.problem.labels ++ map constraint_line e.problem.constraints) ≡ l ++ c =
-        flat_map-append (λ line. line ++ 10 ∷ []) (map label_line e.problem.labels) (map constraint_line e.problem.constraints) in
+    flat_map-append (λ line. line ++ 10 ∷ []) (map label_line e.problem.labels) (map constraint_line e.problem.constraints) in
     let whole : evidence_text e ≡ ended (problem_lines e.problem) ++ ended (derivation_lines e.derivation) =
-        flat_map-append (λ line. line ++ 10 ∷ []) (problem_lines e.problem) (derivation_lines e.derivation) in
+    flat_map-append (λ line. line ++ 10 ∷ []) (problem_lines e.problem) (derivation_lines e.derivation) in
     f5 ∙ regroup_five p l c d k ∙ ap (λ (r : List ℕ). (p ++ r) ++ (d ++ k)) (sym inner) ∙ sym whole

@@ -1,5 +1,5 @@
 -- A word that is cut at its first `:`.
-use Rattle.std.proofs.Common.{◌≡◌, ◌≢◌, ℕ, ◌+◌, ◌<◌, ◌≤◌, ◌^◌, ◌==◌, not, arith, Bool, true, false, List, [], ◌∷◌, ◌++◌, Option, Some, None, option_map, IfSome, IfOk, Result, Ok, Err, refl, sym, ap, subst, ◌∙◌, All}
+use Rattle.std.proofs.Common.{◌≡◌, ◌≢◌, ℕ, ◌<◌, ◌≤◌, ◌^◌, arith, Bool, true, false, List, [], ◌∷◌, ◌++◌, Option, Some, None, option_map, IfSome, IfOk, Result, Ok, Err, refl, sym, ap, subst, ◌∙◌, All}
 use Rattle.std.specs.Fmt.{decimal}
 use Rattle.std.proofs.lemmas.Bool.Decides.{nat_tests}
 use Rattle.std.proofs.lemmas.List.Elements.{All-head, All-tail, All-weaker}
@@ -58,10 +58,13 @@ pub colon_both : {A B X : Type 0} (VA : A → Type 0) (sa : A → List ℕ) (VB 
     → ((a : A) → VA a → NoColon (sa a)) → NoColon before → word ≡ before ++ 58 ∷ behind
     → (x : X) → ((y : X) → first y ≡ first x → second y ≡ second x → y ≡ x) → Reading VA sa before (Some (first x)) → Reading VB sb behind (Some (second x))
     → Reading (λ z. VA (first z) × VB (second z)) (λ z. sa (first z) ++ 58 ∷ sb (second z)) word (Some x)
-colon_both VA sa VB sb first second word before behind plain p is x whole r s =
-    ((r.0, s.0), is ∙ (λ i. r.1 i ++ 58 ∷ s.1 i), λ y valid e.
-    let same = cut_same before (sa (first y)) behind (sb (second y)) p (plain (first y) valid.0) (sym is ∙ e) in
-    whole y (r.2 (first y) valid.0 same.0) (s.2 (second y) valid.1 same.1))
+colon_both VA sa VB sb first second word before behind plain p is x whole r s = (
+  (r.0, s.0),
+  is ∙ (λ i. r.1 i ++ 58 ∷ s.1 i),
+  λ y valid e.
+      let same = cut_same before (sa (first y)) behind (sb (second y)) p (plain (first y) valid.0) (sym is ∙ e) in
+      whole y (r.2 (first y) valid.0 same.0) (s.2 (second y) valid.1 same.1),
+)
 
 -- a literal's word
 no_minus : (n : ℕ) (digits : List ℕ) → n < 2 ^ 32 → 45 ∷ digits ≡ decimal n → ⊥
@@ -78,12 +81,15 @@ pub lit_minus : (word digits : List ℕ) (found : Option Lit) → word ≡ 45 �
     → IfSome found (λ (l : Lit). l.positive ≡ false) → Reading IsLiteral lit_word word found
 lit_minus word digits None is r s = λ x valid e.
     let parts = minus_word x x.positive refl valid digits (sym is ∙ e) in r x.variable valid parts.1
-lit_minus word digits (Some y) is r s =
-    (r.0, rw s (is ∙ ap (λ ds. 45 ∷ ds) r.1), λ x valid e.
-    let parts = minus_word x x.positive refl valid digits (sym is ∙ e) in
-    let same = r.2 x.variable valid parts.1 in
-    let sign : x.positive ≡ y.positive = parts.0 ∙ sym s in
-    λ i. record { variable = same i; positive = sign i })
+lit_minus word digits (Some y) is r s = (
+  r.0,
+  rw s (is ∙ ap (λ ds. 45 ∷ ds) r.1),
+  λ x valid e.
+      let parts = minus_word x x.positive refl valid digits (sym is ∙ e) in
+      let same = r.2 x.variable valid parts.1 in
+      let sign : x.positive ≡ y.positive = parts.0 ∙ sym s in
+      λ i. record { variable = same i; positive = sign i },
+)
 
 plain_word : (x : Lit) (t : Bool) → x.positive ≡ t → (word : List ℕ) → ((rest : List ℕ) → word ≢ 45 ∷ rest) → word ≡ lit_word x → (t ≡ true) × (word ≡ decimal x.variable)
 plain_word x true p word none e = let is : word ≡ decimal x.variable = rw p at e in (refl, is)
@@ -93,12 +99,15 @@ pub lit_plain : (word : List ℕ) (found : Option Lit) → ((rest : List ℕ) �
     → IfSome found (λ (l : Lit). l.positive ≡ true) → Reading IsLiteral lit_word word found
 lit_plain word None none r s = λ x valid e.
     let parts = plain_word x x.positive refl word none e in r x.variable valid parts.1
-lit_plain word (Some y) none r s =
-    (r.0, rw s r.1, λ x valid e.
-    let parts = plain_word x x.positive refl word none e in
-    let same = r.2 x.variable valid parts.1 in
-    let sign : x.positive ≡ y.positive = parts.0 ∙ sym s in
-    λ i. record { variable = same i; positive = sign i })
+lit_plain word (Some y) none r s = (
+  r.0,
+  rw s r.1,
+  λ x valid e.
+      let parts = plain_word x x.positive refl word none e in
+      let same = r.2 x.variable valid parts.1 in
+      let sign : x.positive ≡ y.positive = parts.0 ∙ sym s in
+      λ i. record { variable = same i; positive = sign i },
+)
 
 -- the same of what was answered
 pub lit_minus_read : {E : Type 0} (word digits : List ℕ) (read : Result (Option Lit) E) → word ≡ 45 ∷ digits

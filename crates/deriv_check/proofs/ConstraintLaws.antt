@@ -1,5 +1,5 @@
 -- A constraint, as it is read.
-use Rattle.std.proofs.Common.{◌≡◌, ℕ, ◌+◌, ◌<◌, ◌≤◌, ◌^◌, arith, List, [], ◌∷◌, length, map, Option, Some, None, refl, sym, ap, subst, ◌∙◌, All, Bor, codes}
+use Rattle.std.proofs.Common.{◌≡◌, ℕ, ◌<◌, ◌≤◌, ◌^◌, arith, List, ◌∷◌, length, map, Some, None, sym, ap, subst, ◌∙◌, All, Bor, codes}
 use Rattle.std.specs.Fmt.{decimal}
 use Rattle.pb_core.specs.AtLeast.{AtLeast, at_least}
 use Rattle.pb_core.specs.Normal.{IsNormalOver}
@@ -14,7 +14,7 @@ use Rattle.deriv_check.proofs.SolidLaws.{solid_origin, solid_term}
 use Rattle.deriv_check.proofs.WordLaws.{IsAbove, IsSolid, AreWords, are_words, decimal_solid}
 use Rattle.deriv_check.specs.Reading.{Reading, IsFront, seen}
 use Rattle.deriv_check.specs.Terms.{IsTerm, constraint_of, constraint_parts}
-use Rattle.deriv_check.proofs.ReadingLaws.{front_short, front_whole, length-seen}
+use Rattle.deriv_check.proofs.ReadingLaws.{front_short, front_whole}
 
 abbrev IsDegree : ℕ → Type 0
 IsDegree n = n < 2 ^ 64
@@ -83,15 +83,16 @@ pub constraint_found : (labels : List (List ℕ)) (origin degree : List ℕ) (te
     → Reading IsDegree decimal degree (Some number) → IsFront IsTerm term_word (seen terms) found → length terms ≤ length found
     → IsNormalOver (length labels) (constraint_of found number) → Reading (IsOriginOver labels found) (origin_word found) origin (Some o)
     → Reading (IsConstraintOver labels) constraint_parts (origin ∷ degree ∷ seen terms) (Some (record { terms = found; degree = number; origin = o }))
-constraint_found labels origin degree terms found number o few r front h normal s =
-    (record { normal = normal; origin = s.0 },
-     (λ i. s.1 i ∷ r.1 i ∷ front_whole IsTerm term_word terms found front h i),
-     λ x valid e.
-     let t = same_terms labels origin degree terms found few front h x valid e in
-     let d = same_degree labels origin degree (seen terms) number r x valid e in
-     let along = origin_along labels origin x.terms found x.origin t valid.origin (parts origin degree (seen terms) x e).first in
-     let same = s.2 x.origin along.0 along.1 in
-     λ i. record { terms = t i; degree = d i; origin = same i })
+constraint_found labels origin degree terms found number o few r front h normal s = (
+  record { normal = normal; origin = s.0 },
+  (λ i. s.1 i ∷ r.1 i ∷ front_whole IsTerm term_word terms found front h i),
+  λ x valid e.
+      let t = same_terms labels origin degree terms found few front h x valid e in
+      let d = same_degree labels origin degree (seen terms) number r x valid e in
+      let along = origin_along labels origin x.terms found x.origin t valid.origin (parts origin degree (seen terms) x e).first in
+      let same = s.2 x.origin along.0 along.1 in
+      λ i. record { terms = t i; degree = d i; origin = same i },
+)
 
 -- the words of each constraint are words
 pub constraint_are_words : (labels : List (List ℕ)) → IsCount (length labels) → (x : Constraint) → IsConstraintOver labels x → AreWords (constraint_words x)

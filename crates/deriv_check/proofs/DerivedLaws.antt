@@ -1,8 +1,8 @@
 -- A line of a derivation, as it is read.
-use Rattle.std.proofs.Common.{◌≡◌, Option, Some, None, ℕ, ◌+◌, ◌-◌, ◌<◌, ◌≤◌, ◌^◌, nat_lt, arith, suc, Bool, true, false, List, [], ◌∷◌, ◌++◌, length, map, take, drop, get_or, refl, sym, ap, subst, ◌∙◌, All, Bor, codes}
+use Rattle.std.proofs.Common.{◌≡◌, Some, None, ℕ, ◌+◌, ◌<◌, ◌≤◌, nat_lt, arith, suc, Bool, true, false, List, [], ◌∷◌, ◌++◌, length, map, take, drop, get_or, refl, sym, ap, subst, ◌∙◌, All, Bor, codes}
 use Rattle.std.specs.Fmt.{decimal}
 use Rattle.std.proofs.lemmas.Bool.Decides.{nat_tests}
-use Rattle.std.proofs.lemmas.List.{take_at, drop_at, length-map, length-append, length-drop, get_or_at, get_or_append_left, get_or-map, get_or-take, drop-map, take-append-drop, drop_more, take_all}
+use Rattle.std.proofs.lemmas.List.{take_at, drop_at, length-map, length-append, get_or_at, get_or_append_left, get_or-map, get_or-take, drop-map, take-append-drop, drop_more}
 use Rattle.std.proofs.lemmas.List.Elements.{All-get_or, All-head}
 use Rattle.pb_core.specs.declared.literal.Lit.{Lit}
 use Rattle.deriv_check.specs.EvidenceForm.{IsLine, IsLiteral, IsHint}
@@ -66,22 +66,22 @@ derived_cut words clause x front valid e = by (nat_lt (length clause) (length x.
     by true t f g =
         let lt : length clause < length x.clause = grind (arith, nat_tests) in
         let at : get_or words (length clause) [] ≡ lit_word (get_or x.clause (length clause) filler) =
-            ap (λ (l : List (List ℕ)). get_or l (length clause) []) e
-            ∙ get_or_append_left (map lit_word x.clause) (codes ";" ∷ map decimal x.hints) [] (length clause) (omega (arith, n, lt))
-            ∙ get_or-map lit_word x.clause (length clause) filler [] lt in
+        ap (λ (l : List (List ℕ)). get_or l (length clause) []) e
+        ∙ get_or_append_left (map lit_word x.clause) (codes ";" ∷ map decimal x.hints) [] (length clause) (omega (arith, n, lt))
+        ∙ get_or-map lit_word x.clause (length clause) filler [] lt in
         absurd (front.stops (omega (arith, whole, n, lt)) (get_or x.clause (length clause) filler) [] (All-get_or IsLiteral x.clause (length clause) filler lt valid.clause) at)
     by false true f g =
         let lt : length x.clause < length clause = grind (arith, nat_tests) in
         let mark : get_or words (length x.clause) [] ≡ codes ";" =
-            ap (λ (l : List (List ℕ)). get_or l (length x.clause) []) e ∙ get_or_at (map lit_word x.clause) (codes ";") (map decimal x.hints) [] (length x.clause) n in
+        ap (λ (l : List (List ℕ)). get_or l (length x.clause) []) e ∙ get_or_at (map lit_word x.clause) (codes ";") (map decimal x.hints) [] (length x.clause) n in
         let word : get_or words (length x.clause) [] ≡ lit_word (get_or clause (length x.clause) filler) =
-            sym (get_or-take (length clause) words (length x.clause) [] lt) ∙ ap (λ (l : List (List ℕ)). get_or l (length x.clause) []) front.spelled
-            ∙ get_or-map lit_word clause (length x.clause) filler [] lt in
+        sym (get_or-take (length clause) words (length x.clause) [] lt) ∙ ap (λ (l : List (List ℕ)). get_or l (length x.clause) []) front.spelled
+        ∙ get_or-map lit_word clause (length x.clause) filler [] lt in
         absurd (not_mark (get_or clause (length x.clause) filler) (All-get_or IsLiteral clause (length x.clause) filler lt front.valid) (sym word ∙ mark))
     by false false f g =
         let same : length x.clause ≡ length clause = grind (arith, nat_tests) in
         let words_same : map lit_word x.clause ≡ map lit_word clause =
-            sym (ap (take (length clause)) e ∙ take_at (map lit_word x.clause) (codes ";" ∷ map decimal x.hints) (length clause) (n ∙ same)) ∙ front.spelled in
+        sym (ap (take (length clause)) e ∙ take_at (map lit_word x.clause) (codes ";" ∷ map decimal x.hints) (length clause) (n ∙ same)) ∙ front.spelled in
         cut_of words clause x (front.only x.clause valid.clause words_same) e
 
 pub no_mark : (words : List (Bor (List ℕ))) (clause : List Lit) → IsFront IsLiteral lit_word (seen words) clause → length words ≤ length clause
@@ -114,10 +114,13 @@ derived_found words clause hints front lt mark second h =
     let rest = front_whole IsHint decimal (drop (n + 1) words) hints second h in
     let more : drop n (seen words) ≡ get_or (seen words) n [] ∷ drop (n + 1) (seen words) = drop_more (seen words) n [] (omega (arith, lt, length-seen words)) in
     let whole : seen words ≡ map lit_word clause ++ codes ";" ∷ map decimal hints =
-        sym (take-append-drop n (seen words)) ∙ (λ i. front.spelled i ++ more i)
-        ∙ ap (λ (w : List ℕ). map lit_word clause ++ w ∷ drop (n + 1) (seen words)) (seen-at words n no_word lt [] ∙ mark)
-        ∙ ap (λ (l : List (List ℕ)). map lit_word clause ++ codes ";" ∷ l) (sym (behind words (n + 1)) ∙ rest) in
-    (record { clause = front.valid; hints = second.valid }, whole, λ x valid e.
-    let cut = derived_cut (seen words) clause x front valid e in
-    let same : x.hints ≡ hints = second.only x.hints valid.hints (sym cut.hints ∙ sym (behind words (n + 1)) ∙ rest) in
-    λ i. record { clause = cut.same i; hints = same i })
+    sym (take-append-drop n (seen words)) ∙ (λ i. front.spelled i ++ more i)
+    ∙ ap (λ (w : List ℕ). map lit_word clause ++ w ∷ drop (n + 1) (seen words)) (seen-at words n no_word lt [] ∙ mark)
+    ∙ ap (λ (l : List (List ℕ)). map lit_word clause ++ codes ";" ∷ l) (sym (behind words (n + 1)) ∙ rest) in (
+      record { clause = front.valid; hints = second.valid },
+      whole,
+      λ x valid e.
+          let cut = derived_cut (seen words) clause x front valid e in
+          let same : x.hints ≡ hints = second.only x.hints valid.hints (sym cut.hints ∙ sym (behind words (n + 1)) ∙ rest) in
+          λ i. record { clause = cut.same i; hints = same i },
+    )

@@ -1,8 +1,8 @@
 -- Facts on lines that begin with those of a value.
-use Rattle.std.proofs.Common.{◌≡◌, ℕ, ◌+◌, ◌-◌, ◌<◌, ◌≤◌, min, arith, suc, zero, List, [], ◌∷◌, ◌++◌, length, take, drop, map, replicate, get_or, Option, Some, None, refl, sym, ap, subst, ◌∙◌, append_assoc, All}
-use Rattle.std.proofs.lemmas.List.{append-nil, append_cancel_left, map-append, length-map, length-append, length-take, length-take-le, length-replicate, take-append-drop, take-append-le, take-take, take_all, take_at, drop_at, drop-drop, get_or-take, get_or-map, get_or_append_left}
+use Rattle.std.proofs.Common.{◌≡◌, ℕ, ◌+◌, ◌-◌, ◌<◌, arith, suc, List, [], ◌∷◌, ◌++◌, length, take, drop, map, replicate, get_or, Some, None, refl, sym, ap, subst, ◌∙◌, append_assoc}
+use Rattle.std.proofs.lemmas.List.{append_cancel_left, map-append, length-map, length-append, length-take, length-replicate, take-append-drop, take-take, drop-drop, get_or-take, get_or-map, get_or_append_left}
 use Rattle.std.proofs.lemmas.List.Elements.{All-append, All-replicate, All-get_or}
-use Rattle.deriv_check.specs.Reading.{Reading, IsFront, BeginsLines, Begun, Stops, IsListOf, IsPairOf, pair_lines}
+use Rattle.deriv_check.specs.Reading.{Reading, IsFront, Begun, Stops, IsListOf, IsPairOf, pair_lines}
 
 -- lists that begin alike and are as long are the same
 pub same_front : {W : Type 0} (a b x y : List W) → length a ≡ length b → a ++ x ≡ b ++ y → a ≡ b
@@ -46,7 +46,7 @@ begun-list Valid line written count found front n = record {
   valid = (n, front.valid);
   spelled =
       let whole : take count written ≡ map line found =
-          sym (ap (λ k. take k (take count written)) n ∙ take-take count count written (omega arith)) ∙ front.spelled in
+      sym (ap (λ k. take k (take count written)) n ∙ take-take count count written (omega arith)) ∙ front.spelled in
       let places : length (map line found) ≡ count = length-map found line ∙ n in
       sym (ap (λ k. map line found ++ drop k written) places ∙ ap (λ f. f ++ drop count written) (sym whole) ∙ take-append-drop count written);
   only = λ ys a b valid e.
@@ -78,15 +78,17 @@ stops-list {X} {W} Valid line written count found filler valid front h = record 
       record {
         value = found ++ rest;
         more = map line rest;
-        valid = (omega (arith, length-append found rest, length-replicate (count - length found) filler),
-            All-append Valid found rest front.valid (All-replicate Valid (count - length found) filler valid));
+        valid = (
+          omega (arith, length-append found rest, length-replicate (count - length found) filler),
+          All-append Valid found rest front.valid (All-replicate Valid (count - length found) filler valid),
+        );
         spelled = ap (λ f. f ++ map line rest) fronts ∙ sym (map-append line found rest);
       };
   fails = λ lt ys more behind is e.
       let n = length found in
       let inside : n < length (take (n + 1) written) = omega (arith, length-take (n + 1) written) in
       let at : get_or (take (n + 1) written ++ more) n (line filler) ≡ get_or written n (line filler) =
-          get_or_append_left (take (n + 1) written) more (line filler) n inside ∙ get_or-take (n + 1) written n (line filler) (omega arith) in
+      get_or_append_left (take (n + 1) written) more (line filler) n inside ∙ get_or-take (n + 1) written n (line filler) (omega arith) in
       list_clash Valid line written (take (n + 1) written ++ more) behind count found ys filler front h lt at is e;
   refused = λ ys behind is e.
       let long : length written ≡ length (map line ys ++ behind) = ap length e in
@@ -142,9 +144,10 @@ pair_clash : {X Y W : Type 0} (Valid : X → Type 0) (Behind : X → Y → Type 
     → Behind x p.1 × (tail ≡ behind p.1 ++ rest)
 pair_clash {X} Valid Behind spell behind written x first p tail rest valid e =
     let whole : spell p.0 ++ (behind p.1 ++ rest) ≡ spell x ++ tail = sym (e ∙ append_assoc (spell p.0) (behind p.1) rest) in
-    let left : p.0 ≡ x = first.only p.0 (behind p.1 ++ rest) tail valid.0 whole in
-    (subst (λ (z : X). Behind z p.1) left valid.1,
-     append_cancel_left (spell x) _ _ (sym (ap (λ (z : X). spell z ++ (behind p.1 ++ rest)) (sym left) ∙ whole)))
+    let left : p.0 ≡ x = first.only p.0 (behind p.1 ++ rest) tail valid.0 whole in (
+      subst (λ (z : X). Behind z p.1) left valid.1,
+      append_cancel_left (spell x) _ _ (sym (ap (λ (z : X). spell z ++ (behind p.1 ++ rest)) (sym left) ∙ whole)),
+    )
 
 pub stops-pair_second : {X Y W : Type 0} (Valid : X → Type 0) (Behind : X → Y → Type 0) (spell : X → List W) (behind : Y → List W) (written : List W) (x : X) (at : ℕ)
     → Begun Valid spell written x → Stops (Behind x) behind (drop (length (spell x)) written) at
@@ -152,7 +155,7 @@ pub stops-pair_second : {X Y W : Type 0} (Valid : X → Type 0) (Behind : X → 
 stops-pair_second {X} {Y} {W} Valid Behind spell behind written x at first second =
     let rest = drop (length (spell x)) written in
     let cut : (n : ℕ) → take (length (spell x) + n) written ≡ spell x ++ take n rest =
-        λ n. ap (take (length (spell x) + n)) first.spelled ∙ take_behind (spell x) rest n in
+    λ n. ap (take (length (spell x) + n)) first.spelled ∙ take_behind (spell x) rest n in
     let long : length written ≡ length (spell x) + length rest = ap length first.spelled ∙ length-append (spell x) rest in
     record {
       within = omega (arith, long, second.within);
@@ -167,7 +170,7 @@ stops-pair_second {X} {Y} {W} Valid Behind spell behind written x at first secon
       fails = λ lt p more behinds valid e.
           let places : length (spell x) + at + 1 ≡ length (spell x) + (at + 1) = omega arith in
           let whole : spell x ++ (take (at + 1) rest ++ more) ≡ pair_lines spell behind p ++ behinds =
-              sym (append_assoc (spell x) (take (at + 1) rest) more) ∙ ap (λ l. l ++ more) (sym (ap (λ k. take k written) places ∙ cut (at + 1))) ∙ e in
+          sym (append_assoc (spell x) (take (at + 1) rest) more) ∙ ap (λ l. l ++ more) (sym (ap (λ k. take k written) places ∙ cut (at + 1))) ∙ e in
           let parts = pair_clash Valid Behind spell behind written x first p (take (at + 1) rest ++ more) behinds valid whole in
           second.fails (omega (arith, long)) p.1 more behinds parts.0 parts.1;
       refused = λ p behinds valid e.

@@ -1,12 +1,11 @@
 -- Facts on normal constraints.
-use Rattle.std.proofs.Common.{◌≡◌, ℕ, ◌+◌, ◌-◌, ◌<◌, ◌≤◌, ◌^◌, nat_lt, arith, Bool, true, false, List, length, map, get_or, take, drop, refl, sym, ap, ◌∙◌, All}
-use Rattle.std.specs.List.{sum_by}
+use Rattle.std.proofs.Common.{◌≡◌, ℕ, ◌+◌, ◌-◌, ◌<◌, ◌≤◌, ◌^◌, nat_lt, arith, Bool, true, false, List, length, map, get_or, take, refl, ap, ◌∙◌, All}
 use Rattle.std.specs.List.Sorted.{IsStrictlyIncreasing}
 use Rattle.std.proofs.lemmas.Bool.Decides.{nat_tests}
 use Rattle.std.proofs.lemmas.List.{get_or_default, get_or-map, length-map}
 use Rattle.std.proofs.lemmas.List.Elements.{All-weaker}
 use Rattle.std.proofs.lemmas.List.Sums.{sum_by_more, sum_by-take-le}
-use Rattle.pb_core.specs.Normal.{IsNormal, IsNormalOver}
+use Rattle.pb_core.specs.Normal.{IsNormalOver}
 use Rattle.pb_core.specs.Slack.{coef_sum}
 use Rattle.pb_core.specs.declared.literal.Term.{Term}
 use Rattle.deriv_check.specs.Terms.{IsTermOver, constraint_of}
@@ -25,9 +24,9 @@ rising_more terms place d from within below step k e h = by (nat_lt (k + 1) plac
         let here : k + 1 ≡ place = grind (arith, nat_tests) in
         let before : k ≡ place - 1 = omega (arith, here) in
         let a : (get_or terms k e).lit.variable ≡ (get_or terms (place - 1) d).lit.variable =
-            ap (λ (t : Term). t.lit.variable) (get_or_default terms k e d (omega (arith, here)) ∙ ap (λ n. get_or terms n d) before) in
+        ap (λ (t : Term). t.lit.variable) (get_or_default terms k e d (omega (arith, here)) ∙ ap (λ n. get_or terms n d) before) in
         let b : (get_or terms (k + 1) e).lit.variable ≡ (get_or terms place d).lit.variable =
-            ap (λ (t : Term). t.lit.variable) (get_or_default terms (k + 1) e d (omega (arith, here)) ∙ ap (λ n. get_or terms n d) here) in
+        ap (λ (t : Term). t.lit.variable) (get_or_default terms (k + 1) e d (omega (arith, here)) ∙ ap (λ n. get_or terms n d) here) in
         omega (arith, a, b, step)
 
 pub rising_all : (terms : List Term) (place : ℕ) → length terms ≤ place → IsRisingTo terms place → IsStrictlyIncreasing (map (λ t. t.lit.variable) terms)

@@ -1,5 +1,5 @@
 -- What a constraint stands for, as it is read.
-use Rattle.std.proofs.Common.{◌≡◌, ℕ, ◌+◌, ◌-◌, ◌<◌, arith, Bool, true, List, [], ◌∷◌, ◌++◌, length, drop, get_or, Option, Some, None, option_map, refl, sym, ap, subst, ◌∙◌, codes}
+use Rattle.std.proofs.Common.{◌≡◌, ℕ, ◌-◌, ◌<◌, arith, true, List, [], ◌∷◌, ◌++◌, length, drop, get_or, Option, Some, None, option_map, refl, sym, ap, subst, ◌∙◌, codes}
 use Rattle.std.specs.Str.{IsUtf8}
 use Rattle.std.proofs.lemmas.List.{get_or_default}
 use Rattle.osgi_version.specs.Field.{field}
@@ -70,9 +70,12 @@ root_rest labels rest (origin.One id) valid e = let h : 114 ≡ 111 = other_head
 root_cut : (labels : List (List ℕ)) (rest : List ℕ) (found : Option (List ℕ)) → Reading IsUtf8 field rest found
     → Reading (IsOriginOver labels []) (origin_word []) (codes "root" ++ 58 ∷ rest) (option_map origin.Root found)
 root_cut labels rest None r = λ x valid e. let parts = root_rest labels rest x valid e in r parts.0 parts.1 parts.2
-root_cut labels rest (Some y) r =
-    ((tt, r.0), ap (λ l. codes "root" ++ 58 ∷ l) r.1, λ x valid e.
-    let parts = root_rest labels rest x valid e in parts.3 ∙ ap origin.Root (r.2 parts.0 parts.1 parts.2))
+root_cut labels rest (Some y) r = (
+  (tt, r.0),
+  ap (λ l. codes "root" ++ 58 ∷ l) r.1,
+  λ x valid e.
+      let parts = root_rest labels rest x valid e in parts.3 ∙ ap origin.Root (r.2 parts.0 parts.1 parts.2),
+)
 
 -- the other kinds
 one_rest : (labels : List (List ℕ)) (terms : List Term) (rest : List ℕ) (x : Origin) → IsOriginOver labels terms x → codes "one" ++ 58 ∷ rest ≡ origin_word terms x
@@ -86,9 +89,12 @@ one_rest labels terms rest (origin.One id) valid e = (id, valid.1, ap (drop 4) e
 one_cut : (labels : List (List ℕ)) (terms : List Term) (rest : List ℕ) (found : Option (List ℕ)) → Reading IsUtf8 field rest found
     → Reading (IsOriginOver labels terms) (origin_word terms) (codes "one" ++ 58 ∷ rest) (option_map origin.One found)
 one_cut labels terms rest None r = λ x valid e. let parts = one_rest labels terms rest x valid e in r parts.0 parts.1 parts.2
-one_cut labels terms rest (Some y) r =
-    ((tt, r.0), ap (λ l. codes "one" ++ 58 ∷ l) r.1, λ x valid e.
-    let parts = one_rest labels terms rest x valid e in parts.3 ∙ ap origin.One (r.2 parts.0 parts.1 parts.2))
+one_cut labels terms rest (Some y) r = (
+  (tt, r.0),
+  ap (λ l. codes "one" ++ 58 ∷ l) r.1,
+  λ x valid e.
+      let parts = one_rest labels terms rest x valid e in parts.3 ∙ ap origin.One (r.2 parts.0 parts.1 parts.2),
+)
 
 abbrev pub need : ℕ × ℕ → Origin
 need p = origin.Need p.0 p.1
@@ -110,9 +116,12 @@ need_rest labels terms rest (origin.One id) valid e = let h : 110 ≡ 111 = othe
 need_cut : (labels : List (List ℕ)) (terms : List Term) (rest : List ℕ) (found : Option (ℕ × ℕ)) → Reading ArePair written rest found
     → Reading (IsOriginOver labels terms) (origin_word terms) (codes "need" ++ 58 ∷ rest) (option_map need found)
 need_cut labels terms rest None r = λ x valid e. let parts = need_rest labels terms rest x valid e in r parts.0 parts.1 parts.2
-need_cut labels terms rest (Some y) r =
-    ((tt, r.0), ap (λ l. codes "need" ++ 58 ∷ l) r.1, λ x valid e.
-    let parts = need_rest labels terms rest x valid e in parts.3 ∙ ap need (r.2 parts.0 parts.1 parts.2))
+need_cut labels terms rest (Some y) r = (
+  (tt, r.0),
+  ap (λ l. codes "need" ++ 58 ∷ l) r.1,
+  λ x valid e.
+      let parts = need_rest labels terms rest x valid e in parts.3 ∙ ap need (r.2 parts.0 parts.1 parts.2),
+)
 
 most_rest : (labels : List (List ℕ)) (terms : List Term) (rest : List ℕ) (x : Origin) → IsOriginOver labels terms x → codes "most" ++ 58 ∷ rest ≡ origin_word terms x
     → (p : ℕ × ℕ) × ArePair p × (rest ≡ written p) × (x ≡ most p)
@@ -125,9 +134,12 @@ most_rest labels terms rest (origin.One id) valid e = let h : 109 ≡ 111 = othe
 most_cut : (labels : List (List ℕ)) (terms : List Term) (rest : List ℕ) (found : Option (ℕ × ℕ)) → Reading ArePair written rest found
     → Reading (IsOriginOver labels terms) (origin_word terms) (codes "most" ++ 58 ∷ rest) (option_map most found)
 most_cut labels terms rest None r = λ x valid e. let parts = most_rest labels terms rest x valid e in r parts.0 parts.1 parts.2
-most_cut labels terms rest (Some y) r =
-    ((tt, r.0), ap (λ l. codes "most" ++ 58 ∷ l) r.1, λ x valid e.
-    let parts = most_rest labels terms rest x valid e in parts.3 ∙ ap most (r.2 parts.0 parts.1 parts.2))
+most_cut labels terms rest (Some y) r = (
+  (tt, r.0),
+  ap (λ l. codes "most" ++ 58 ∷ l) r.1,
+  λ x valid e.
+      let parts = most_rest labels terms rest x valid e in parts.3 ∙ ap most (r.2 parts.0 parts.1 parts.2),
+)
 
 -- the same of a word that was cut
 pub root_read : (labels : List (List ℕ)) (terms : List Term) (word kind rest : List ℕ) (found : Option (List ℕ)) → terms ≡ [] → word ≡ kind ++ 58 ∷ rest → kind ≡ codes "root"

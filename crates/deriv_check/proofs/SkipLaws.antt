@@ -1,14 +1,14 @@
 -- The line that may stand before an evidence.
-use Rattle.std.proofs.Common.{◌≡◌, ℕ, ◌+◌, ◌-◌, ◌<◌, ◌≤◌, arith, suc, zero, List, [], ◌∷◌, ◌++◌, length, take, drop, Result, Ok, Err, refl, sym, ap, subst, ◌∙◌, codes}
+use Rattle.std.proofs.Common.{◌≡◌, ℕ, ◌+◌, ◌-◌, ◌<◌, arith, suc, List, [], ◌∷◌, ◌++◌, length, take, drop, Result, Ok, Err, refl, sym, ap, subst, ◌∙◌}
 use Rattle.std.specs.Fmt.{decimal}
-use Rattle.std.proofs.lemmas.List.{append-nil, append_assoc}
+use Rattle.std.proofs.lemmas.List.{append-nil}
 use Rattle.deriv_check.specs.declared.derivation.Evidence.{Evidence}
 use Rattle.deriv_check.specs.declared.stop.Stop.{Stop}
 use Rattle.deriv_check.specs.declared.stop.Stop.TheVariants as stop
 use Rattle.deriv_check.specs.EvidenceAnswers.{AnswersLines}
-use Rattle.deriv_check.specs.EvidenceForm.{IsEvidence, BeginsProblem, IsSkipped, DenotesEvidence, BeginsEvidence, IsFirstBadLine}
+use Rattle.deriv_check.specs.EvidenceForm.{IsEvidence, BeginsProblem, IsSkipped, DenotesEvidence}
 use Rattle.deriv_check.specs.EvidenceText.{problem_line, evidence_lines}
-use Rattle.deriv_check.specs.Reading.{Begun, Stops, Parses, stop_behind}
+use Rattle.deriv_check.specs.Reading.{Parses, stop_behind}
 
 problem_begins : (counts : ℕ × ℕ) → BeginsProblem (problem_line counts)
 unfolding problem_line
@@ -38,9 +38,10 @@ plain_is : (lines behind : List (List ℕ)) (e : Evidence) → IsEvidence e → 
 plain_is lines behind e form is = record { skipped = []; behind = behind; spelling = is; skips = tt; form = form }
 
 pub answers_plain : (lines : List (List ℕ)) (r : Result Evidence Stop) → IsPlain lines → Parses IsEvidence evidence_lines lines r → AnswersLines lines r
-answers_plain lines (Ok e) plain h =
-    (plain_is lines _ e h.valid h.spelled,
-     λ f d. h.only f d.behind (drop (length (evidence_lines e)) lines) d.form (sym (plain_denotes lines f plain d) ∙ h.spelled))
+answers_plain lines (Ok e) plain h = (
+  plain_is lines _ e h.valid h.spelled,
+  λ f d. h.only f d.behind (drop (length (evidence_lines e)) lines) d.form (sym (plain_denotes lines f plain d) ∙ h.spelled),
+)
 answers_plain lines (Err (stop.At at)) plain h =
     let back : at + 1 - 1 ≡ at = omega arith in
     record {
@@ -74,9 +75,10 @@ skipped_is : (s : List ℕ) (lines behind : List (List ℕ)) (e : Evidence) → 
 skipped_is s lines behind e other form is = record { skipped = s ∷ []; behind = behind; spelling = ap (λ l. s ∷ l) is; skips = other; form = form }
 
 pub skipped_found : (s : List ℕ) (lines : List (List ℕ)) (e : Evidence) → (BeginsProblem s → ⊥) → Parses IsEvidence evidence_lines lines (Ok e) → AnswersLines (s ∷ lines) (Ok e)
-skipped_found s lines e other h =
-    (skipped_is s lines (drop (length (evidence_lines e)) lines) e other h.valid h.spelled,
-     λ f d. h.only f d.behind (drop (length (evidence_lines e)) lines) d.form (sym (skipped_denotes s lines f other d) ∙ h.spelled))
+skipped_found s lines e other h = (
+  skipped_is s lines (drop (length (evidence_lines e)) lines) e other h.valid h.spelled,
+  λ f d. h.only f d.behind (drop (length (evidence_lines e)) lines) d.form (sym (skipped_denotes s lines f other d) ∙ h.spelled),
+)
 
 pub skipped_stops : (s : List ℕ) (lines : List (List ℕ)) (r : Stop) → (BeginsProblem s → ⊥) → Parses IsEvidence evidence_lines lines (Err r) → AnswersLines (s ∷ lines) (Err (stop_behind 1 r))
 skipped_stops s lines (stop.At at) other h =

@@ -1,9 +1,9 @@
 -- Facts on what is written.
-use Rattle.std.proofs.Common.{◌≡◌, ℕ, ◌+◌, ◌<◌, ◌≤◌, ◌^◌, nat_lt, Bool, true, false, arith, List, [], ◌∷◌, ◌++◌, length, map, take, get_or, refl, sym, ap, subst, ◌∙◌, append_assoc, All, codes}
+use Rattle.std.proofs.Common.{◌≡◌, ℕ, ◌+◌, ◌<◌, ◌≤◌, nat_lt, Bool, true, false, arith, List, [], ◌∷◌, ◌++◌, length, map, take, get_or, refl, sym, ap, subst, ◌∙◌, append_assoc, All, codes}
 use Rattle.std.specs.List.{flat_map}
 use Rattle.std.specs.Fmt.{decimal}
 use Rattle.std.specs.Str.{IsAscii, IsUtf8}
-use Rattle.std.proofs.lemmas.List.{append-nil, take_more, flat_map_more, take_all, get_or_past}
+use Rattle.std.proofs.lemmas.List.{append-nil, take_more, flat_map_more, get_or_past}
 use Rattle.std.proofs.lemmas.Bool.Decides.{nat_tests}
 use Rattle.std.proofs.lemmas.List.Concat.{flat_map-append}
 use Rattle.std.proofs.lemmas.List.Elements.{All-append, All-cons, All-map, All-weaker}
@@ -12,11 +12,10 @@ use Rattle.pb_core.specs.AtLeast.{at_least}
 use Rattle.pb_core.specs.Normal.{IsNormalOver}
 use Rattle.pb_core.specs.declared.constraint.Constraint.{Constraint}
 use Rattle.pb_core.specs.declared.constraint.Problem.{Problem}
-use Rattle.deriv_check.specs.declared.derivation.Derivation.{Derivation}
 use Rattle.deriv_check.specs.declared.derivation.Evidence.{Evidence}
 use Rattle.deriv_check.specs.declared.derivation.Line.{Line}
-use Rattle.deriv_check.specs.EvidenceForm.{IsCount, IsLine, IsOrigin, IsNamed, IsConstraintOver, IsProblem, IsDerivation, IsEvidence, DenotesEvidence, whole_lines}
-use Rattle.deriv_check.specs.EvidenceText.{lit_word, term_word, origin_word, spaced, label_words, constraint_words, derived_words, problem_words, derivation_words, label_line, constraint_line, derived_line, problem_line, derivation_line, problem_lines, derivation_lines, evidence_lines, evidence_text, ended}
+use Rattle.deriv_check.specs.EvidenceForm.{IsCount, IsLine, IsOrigin, IsNamed, IsConstraintOver, IsProblem, IsEvidence, DenotesEvidence, whole_lines}
+use Rattle.deriv_check.specs.EvidenceText.{lit_word, term_word, origin_word, label_words, constraint_words, derived_words, problem_words, derivation_words, label_line, constraint_line, derived_line, problem_line, derivation_line, problem_lines, derivation_lines, evidence_lines, evidence_text, ended}
 use Rattle.deriv_check.proofs.ConstraintLaws.{constraint_are_words}
 use Rattle.deriv_check.proofs.LineWords.{label_are_words, derived_are_words, problem_are_words, derivation_are_words}
 use Rattle.deriv_check.proofs.WordLaws.{IsOneLine, spaced_line, whole_lines-ended, ended_ascii}
@@ -173,7 +172,7 @@ evidence_written e t0 t1 t2 t3 t4 t5 e0 e1 e2 e3 e4 e5 =
     let f4 : t4 ≡ ((p ++ l) ++ c) ++ d = e4 ∙ ap (λ (t : List ℕ). t ++ d) f3 in
     let f5 : t5 ≡ (((p ++ l) ++ c) ++ d) ++ k = e5 ∙ (λ i. f4 i ++ flat_ended derived_line e.derivation.lines i) in
     let inner : ended (map label_line e.problem.labels ++ map constraint_line e.problem.constraints) ≡ l ++ c =
-        flat_map-append (λ line. line ++ 10 ∷ []) (map label_line e.problem.labels) (map constraint_line e.problem.constraints) in
+    flat_map-append (λ line. line ++ 10 ∷ []) (map label_line e.problem.labels) (map constraint_line e.problem.constraints) in
     let whole : evidence_text e ≡ ended (problem_lines e.problem) ++ ended (derivation_lines e.derivation) =
-        flat_map-append (λ line. line ++ 10 ∷ []) (problem_lines e.problem) (derivation_lines e.derivation) in
+    flat_map-append (λ line. line ++ 10 ∷ []) (problem_lines e.problem) (derivation_lines e.derivation) in
     f5 ∙ regroup_five p l c d k ∙ ap (λ (r : List ℕ). (p ++ r) ++ (d ++ k)) (sym inner) ∙ sym whole

@@ -6,13 +6,16 @@ use std::alloc::Global;
 use std::test::Fail;
 
 /// Both singletons of one id are asked for.
-const SINGLETONS: &[u8] = b"problem 2 3\nv x/1.0.0\nv x/2.0.0\nc root 1 1:1\nc root 1 1:2\nc one:x 1 1:-1 1:-2\nderivation 1\nl ; 1 2 3\n";
+const SINGLETONS: &[u8] =
+    b"problem 2 3\nv x/1.0.0\nv x/2.0.0\nc root 1 1:1\nc root 1 1:2\nc one:x 1 1:-1 1:-2\nderivation 1\nl ; 1 2 3\n";
 
 /// The same with a derivation that doesn't check.
-const NO_CONFLICT: &[u8] = b"problem 2 3\nv x/1.0.0\nv x/2.0.0\nc root 1 1:1\nc root 1 1:2\nc one:x 1 1:-1 1:-2\nderivation 1\nl ; 1 3\n";
+const NO_CONFLICT: &[u8] =
+    b"problem 2 3\nv x/1.0.0\nv x/2.0.0\nc root 1 1:1\nc root 1 1:2\nc one:x 1 1:-1 1:-2\nderivation 1\nl ; 1 3\n";
 
 /// Every kind of constraint, and labels that are escaped.
-const KINDS: &[u8] = b"problem 3 5\nv %-\nv a%20b%25%C3%A9\nv :\nc root:gone/1.0.0 1\nc root 1 1:2\nc need:4294967295:1 3 2:-1 1:2 3:3\nc most:0:0 18014398509481984\nc one:%- 1\nderivation 3\nl -0 4294967295 ;\nl ; 4294967295 0\nl ;\n";
+const KINDS: &[u8] =
+    b"problem 3 5\nv %-\nv a%20b%25%C3%A9\nv :\nc root:gone/1.0.0 1\nc root 1 1:2\nc need:4294967295:1 3 2:-1 1:2 3:3\nc most:0:0 18014398509481984\nc one:%- 1\nderivation 3\nl -0 4294967295 ;\nl ; 4294967295 0\nl ;\n";
 
 /// What is answered for the derivation of a text.
 fn verdict(alloc: Global, text: &[u8]) -> Result<Verdict, CheckFault> {
@@ -32,9 +35,15 @@ fn checks_texts(rt: HostRuntime) {
     let worked: [(&[u8], Result<Verdict, CheckFault>); 6] = [
         (SINGLETONS, Ok(Verdict::Refutes)),
         (NO_CONFLICT, bad(1, Why::NoConflict)),
-        (b"problem 1 0\nv a\nderivation 1\nl ; 1\n", bad(1, Why::Hint)),
+        (
+            b"problem 1 0\nv a\nderivation 1\nl ; 1\n",
+            bad(1, Why::Hint),
+        ),
         (b"problem 0 0\nderivation 0\n", Ok(Verdict::Follows)),
-        (b"unsatisfiable\nproblem 1 2\nv a\nc root 1 1:1\nc need:1:1 1 1:-1\nderivation 1\nl ; 1 2\nbecause root a\n", Ok(Verdict::Refutes)),
+        (
+            b"unsatisfiable\nproblem 1 2\nv a\nc root 1 1:1\nc need:1:1 1 1:-1\nderivation 1\nl ; 1 2\nbecause root a\n",
+            Ok(Verdict::Refutes),
+        ),
         (b"problem 1 1\n", bad(2, Why::Text)),
     ];
     for (text, wanted) in worked {
@@ -44,7 +53,12 @@ fn checks_texts(rt: HostRuntime) {
 
 #[test]
 fn writes_what_was_read(rt: HostRuntime) -> Result<(), Fail> {
-    let worked: [&[u8]; 4] = [SINGLETONS, NO_CONFLICT, KINDS, b"problem 0 0\nderivation 0\n"];
+    let worked: [&[u8]; 4] = [
+        SINGLETONS,
+        NO_CONFLICT,
+        KINDS,
+        b"problem 0 0\nderivation 0\n",
+    ];
     for text in worked {
         let again = rewritten(rt.alloc(), text)?;
         assert_eq!(rt; again.bytes(), text);
@@ -95,6 +109,10 @@ fn refuses_texts(rt: HostRuntime) {
             line,
             why: Why::Text,
         });
-        assert_eq!(rt; read_evidence(rt.alloc(), text).err(), wanted, "in {text:?}");
+        assert_eq!(rt;
+            read_evidence(rt.alloc(), text).err(),
+            wanted,
+            "in {text:?}"
+        );
     }
 }

@@ -100,10 +100,7 @@ fn read_parts(alloc: Global, words: &[&[u8]]) -> Result<Option<Line>, NoMemory>
 }
 
 /// Reads how many labels and constraints a problem has.
-pub(crate) fn read_problem_line(
-    alloc: Global,
-    line: &[u8],
-) -> Result<Option<(u32, u32)>, NoMemory>
+pub(crate) fn read_problem_line(alloc: Global, line: &[u8]) -> Result<Option<(u32, u32)>, NoMemory>
     ensures { IfOk result (Reading AreCounts problem_line line.now) }
 {
     let words = words(alloc, line)?;

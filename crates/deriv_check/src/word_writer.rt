@@ -82,7 +82,11 @@ pub(crate) fn push_text(line: &mut Vec<u8>, text: &Text) -> Result<(), NoMemory>
 }
 
 /// Adds what a constraint with these terms stands for.
-pub(crate) fn push_origin(line: &mut Vec<u8>, terms: &[Term], origin: &Origin) -> Result<(), NoMemory>
+pub(crate) fn push_origin(
+    line: &mut Vec<u8>,
+    terms: &[Term],
+    origin: &Origin,
+) -> Result<(), NoMemory>
     ensures spelled { OnOk result (line.new.items ≡ line.old.items ++ origin_word terms.now origin.now) }
     ensures in_type { OnOk result (IsOrigin origin.now) }
 {
@@ -110,12 +114,7 @@ fn push_root(line: &mut Vec<u8>, terms: &[Term], label: &Text) -> Result<(), NoM
     push_text(line, label)
 }
 
-fn push_row(
-    line: &mut Vec<u8>,
-    kind: &[u8],
-    variable: u32,
-    row: u32,
-) -> Result<(), NoMemory>
+fn push_row(line: &mut Vec<u8>, kind: &[u8], variable: u32, row: u32) -> Result<(), NoMemory>
     ensures { OnOk result (line.new.items ≡ line.old.items ++ (kind.now ++ pair_word variable row)) }
 {
     line.extend_from_slice(kind)?;

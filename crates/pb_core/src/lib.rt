@@ -22,6 +22,6 @@ pub use slacks::slack;
 pub use steps::Steps;
 
 #[cfg(test)]
-mod weighted_tests;
-#[cfg(test)]
 mod tests;
+#[cfg(test)]
+mod weighted_tests;

@@ -22,7 +22,12 @@ fn lit(signed: i32) -> Lit {
 }
 
 /// The normal form over variables from 1 to a number, if there is one.
-fn row(alloc: Global, weights: &[(i16, i32)], degree: i16, variables: usize) -> Result<Option<Constraint>, NoMemory>
+fn row(
+    alloc: Global,
+    weights: &[(i16, i32)],
+    degree: i16,
+    variables: usize,
+) -> Result<Option<Constraint>, NoMemory>
     ensures { IfOk result (λ found. IfSome found (λ c. IsNormalOver variables (at_least c))) }
 {
     let mut terms = List::new(alloc);
@@ -48,7 +53,11 @@ fn row(alloc: Global, weights: &[(i16, i32)], degree: i16, variables: usize) -> 
 }
 
 /// The constraints that have a normal form over so many variables.
-fn rows(alloc: Global, weights: &[Weights<'_>], variables: usize) -> Result<List<Constraint>, NoMemory>
+fn rows(
+    alloc: Global,
+    weights: &[Weights<'_>],
+    variables: usize,
+) -> Result<List<Constraint>, NoMemory>
     ensures { IfOk result (λ found. All (λ c. IsNormalOver variables (at_least c)) found) }
 {
     let mut found = List::new(alloc);

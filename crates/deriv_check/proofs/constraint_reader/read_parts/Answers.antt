@@ -1,4 +1,4 @@
-use Rattle.std.proofs.Common.{◌≡◌, ℕ, ◌<◌, ◌^◌, IsTrue, Bool, true, false, Option, None, Some, subst, sym, ap, ◌∙◌, arith, length, List}
+use Rattle.std.proofs.Common.{ℕ, ◌<◌, ◌^◌, Option, None, Some, subst, sym, arith, length, List}
 use Rattle.std.specs.Fmt.{decimal}
 use Rattle.pb_core.specs.Normal.{IsNormalOver}
 use Rattle.pb_core.specs.declared.constraint.Origin.{Origin}
@@ -24,8 +24,8 @@ returns-then-len-terms c =
 pub returns-then-not-is_normal : goal.returns-then-not-is_normal
 returns-then-not-is_normal c =
     let other : IsNormalOver (length c.args.labels.now) (constraint_of c.in_ok-found.found c.in-Some.number) → ⊥ = λ normal.
-        let is = c.is_normal.ensures.1 (subst (λ (ts : List Term). IsNormalOver (length c.args.labels.now) (constraint_of ts c.in-Some.number)) (sym c.items.ensures) normal) in
-        cc in
+    let is = c.is_normal.ensures.1 (subst (λ (ts : List Term). IsNormalOver (length c.args.labels.now) (constraint_of ts c.in-Some.number)) (sym c.items.ensures) normal) in
+    cc in
     not_normal c.args.labels.now c.args.origin.now c.args.degree.now c.args.terms.now c.in_ok-found.found c.in-Some.number c.requires
     (subst (λ (o : Option ℕ). Reading IsDegree decimal c.args.degree.now o) c.in-Some.is c.in_ok-number.ensures)
     c.in_ok-found.ensures (omega (arith, c.if-len-terms.false, c.len.ensures)) other

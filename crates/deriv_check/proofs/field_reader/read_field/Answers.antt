@@ -1,9 +1,8 @@
-use Rattle.std.proofs.Common.{◌≡◌, ◌∙◌, sym, ap, subst, List, ℕ, ◌++◌, [], not, true, false}
-use Rattle.std.specs.Str.{IsUtf8, bytes_eq}
+use Rattle.std.proofs.Common.{◌≡◌, ◌∙◌, sym, ap, subst, ◌++◌, []}
+use Rattle.std.specs.Str.{IsUtf8}
 use Rattle.osgi_version.specs.Field.{field}
 use Rattle.osgi_version.specs.TextFault.{IsTextFault}
 use Rattle.osgi_version.specs.declared.text.TextFault.{TextFault}
-use Rattle.deriv_check.specs.Unescaped.{meant}
 use Rattle.deriv_check.proofs.FieldLaws.{field_refused, field_found}
 use Rattle.deriv_check.proofs.field_reader.read_field.Goals as goal
 

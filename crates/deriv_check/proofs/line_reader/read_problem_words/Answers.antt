@@ -1,8 +1,7 @@
-use Rattle.std.proofs.Common.{◌≡◌, ℕ, List, [], ◌∷◌, Option, Some, subst, sym, ap, ◌∙◌, arith, get_or, drop, length, codes}
+use Rattle.std.proofs.Common.{◌≡◌, ℕ, List, [], ◌∷◌, Option, subst, sym, ◌∙◌, arith, get_or, drop, codes}
 use Rattle.std.specs.Fmt.{decimal}
 use Rattle.std.proofs.lemmas.List.{nil_from_length, length-drop}
 use Rattle.deriv_check.specs.EvidenceForm.{IsCount}
-use Rattle.deriv_check.specs.EvidenceText.{problem_words}
 use Rattle.deriv_check.specs.Reading.{Reading, seen}
 use Rattle.deriv_check.proofs.ReadingLaws.{no_word, seen_three, same_bytes}
 use Rattle.deriv_check.proofs.line_reader.read_problem_words.Goals as goal
@@ -17,9 +16,12 @@ returns c =
     let none = nil_from_length (drop 3 words) (omega (arith, length-drop 3 words, c.if-words-ne3.false)) in
     let whole = seen_three words (omega arith) ∙ (λ i. mark i ∷ (get_or words 1 no_word).now ∷ (get_or words 2 no_word).now ∷ seen (none i)) in
     let r = subst (λ (o : Option ℕ). Reading IsCount decimal (get_or words 1 no_word).now o) c.in-Some.is c.in_ok-labels.ensures in
-    let s = subst (λ (o : Option ℕ). Reading IsCount decimal (get_or words 2 no_word).now o) c.in-Some-2.is c.in_ok-constraints.ensures in
-    ((r.0, s.0), whole ∙ (λ i. codes "problem" ∷ r.1 i ∷ s.1 i ∷ []), λ x valid e.
-    let parts = second (codes "problem") _ _ (decimal x.0) (decimal x.1) (sym whole ∙ e) in
-    let left = r.2 x.0 valid.0 parts.0 in
-    let right = s.2 x.1 valid.1 parts.1 in
-    λ i. (left i, right i))
+    let s = subst (λ (o : Option ℕ). Reading IsCount decimal (get_or words 2 no_word).now o) c.in-Some-2.is c.in_ok-constraints.ensures in (
+      (r.0, s.0),
+      whole ∙ (λ i. codes "problem" ∷ r.1 i ∷ s.1 i ∷ []),
+      λ x valid e.
+          let parts = second (codes "problem") _ _ (decimal x.0) (decimal x.1) (sym whole ∙ e) in
+          let left = r.2 x.0 valid.0 parts.0 in
+          let right = s.2 x.1 valid.1 parts.1 in
+          λ i. (left i, right i),
+    )

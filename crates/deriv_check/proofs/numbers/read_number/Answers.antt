@@ -1,4 +1,4 @@
-use Rattle.std.proofs.Common.{◌≡◌, ℕ, ◌<◌, ◌^◌, Bool, true, false, List, Result, Ok, Some, arith, subst, sym, ap, ◌∙◌}
+use Rattle.std.proofs.Common.{◌≡◌, ℕ, ◌<◌, ◌^◌, true, false, List, Result, Ok, arith, subst, sym, ap, ◌∙◌}
 use Rattle.std.specs.Fmt.{decimal}
 use Rattle.std.specs.Str.{bytes_eq, IsUtf8}
 use Rattle.std.specs.Str.Parse.{ParsesUnsigned}
@@ -32,9 +32,11 @@ other digits word n x is differs same e =
 
 pub returns-then-eq : goal.returns-then-eq
 returns-then-eq c =
-    let digits : c.as_bytes.result.now ≡ decimal c.in-Ok-parse.number = c.as_bytes.ensures.value ∙ c.in_ok-digits.ensures.ok in
-    (omega arith, spelled c.as_bytes.result.now c.args.word.now c.in-Ok-parse.number digits (sym c.eq.ensures ∙ c.if-eq.true),
-     only c.in-Ok.text.now c.args.word.now c.parse.result c.in-Ok-parse.number c.in-Ok.ensures.cases.0 c.in-Ok-parse.is c.parse.ensures.value.0)
+    let digits : c.as_bytes.result.now ≡ decimal c.in-Ok-parse.number = c.as_bytes.ensures.value ∙ c.in_ok-digits.ensures.ok in (
+      omega arith,
+      spelled c.as_bytes.result.now c.args.word.now c.in-Ok-parse.number digits (sym c.eq.ensures ∙ c.if-eq.true),
+      only c.in-Ok.text.now c.args.word.now c.parse.result c.in-Ok-parse.number c.in-Ok.ensures.cases.0 c.in-Ok-parse.is c.parse.ensures.value.0,
+    )
 
 pub returns : goal.returns
 returns c = λ x h e.

@@ -1,4 +1,4 @@
-use Rattle.std.proofs.Common.{◌≡◌, ◌∙◌, ℕ, List, [], ◌∷◌, Bool, true, false, Option, None, Some, ◌==◌, sym, subst, arith, length, codes}
+use Rattle.std.proofs.Common.{◌≡◌, ◌∙◌, ℕ, List, [], ◌∷◌, true, false, Option, None, Some, ◌==◌, sym, subst, arith, length, codes}
 use Rattle.std.specs.Str.{IsUtf8, bytes_eq}
 use Rattle.std.proofs.lemmas.Bool.Decides.{nat_tests}
 use Rattle.std.proofs.lemmas.List.{nil_from_length}
@@ -71,10 +71,10 @@ returns-then-eq-4 c =
 pub returns : goal.returns
 returns c =
     let root : c.in-Some.kind.now ≡ codes "root" → c.args.terms.now ≡ [] → ⊥ =
-        elim c.else-eq.branch [
-          | else-eq-via-then-eq+else-is_empty w ↦ λ e none. some_length c.args.terms.now (sym w.is_empty.ensures ∙ w.if-is_empty.false) none
-          | else-eq-via-else-eq w ↦ λ e none. differs c.in-Some.kind.now c.as_slice.result.now (sym c.eq.ensures ∙ w.if-eq.false) (e ∙ sym c.as_slice.ensures)
-        ] in
+    elim c.else-eq.branch [
+      | else-eq-via-then-eq+else-is_empty w ↦ λ e none. some_length c.args.terms.now (sym w.is_empty.ensures ∙ w.if-is_empty.false) none
+      | else-eq-via-else-eq w ↦ λ e none. differs c.in-Some.kind.now c.as_slice.result.now (sym c.eq.ensures ∙ w.if-eq.false) (e ∙ sym c.as_slice.ensures)
+    ] in
     other_read c.args.labels.now c.args.terms.now c.args.word.now c.in-Some.kind.now c.in-Some.rest.now c.in-Some.ensures.0 c.in-Some.ensures.1 root
     (λ e. differs c.in-Some.kind.now c.as_slice-2.result.now (sym c.eq-2.ensures ∙ c.if-eq-2.false) (e ∙ sym c.as_slice-2.ensures))
     (λ e. differs c.in-Some.kind.now c.as_slice-3.result.now (sym c.eq-3.ensures ∙ c.if-eq-3.false) (e ∙ sym c.as_slice-3.ensures))

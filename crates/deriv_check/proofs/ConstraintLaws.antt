@@ -1,5 +1,5 @@
 -- A constraint, as it is read.
-use Rattle.std.proofs.Common.{◌≡◌, ℕ, ◌+◌, ◌<◌, ◌≤◌, ◌^◌, arith, List, [], ◌∷◌, length, map, Option, Some, None, refl, sym, ap, subst, ◌∙◌, All, Bor, codes}
+use Rattle.std.proofs.Common.{◌≡◌, ℕ, ◌<◌, ◌≤◌, ◌^◌, arith, List, ◌∷◌, length, map, Some, None, sym, ap, subst, ◌∙◌, All, Bor, codes}
 use Rattle.std.specs.Fmt.{decimal}
 use Rattle.pb_core.specs.AtLeast.{AtLeast, at_least}
 use Rattle.pb_core.specs.Normal.{IsNormalOver}
@@ -14,7 +14,7 @@ use Rattle.deriv_check.proofs.SolidLaws.{solid_origin, solid_term}
 use Rattle.deriv_check.proofs.WordLaws.{IsAbove, IsSolid, AreWords, are_words, decimal_solid}
 use Rattle.deriv_check.specs.Reading.{Reading, IsFront, seen}
 use Rattle.deriv_check.specs.Terms.{IsTerm, constraint_of, constraint_parts}
-use Rattle.deriv_check.proofs.ReadingLaws.{front_short, front_whole, length-seen}
+use Rattle.deriv_check.proofs.ReadingLaws.{front_short, front_whole}
 
 abbrev IsDegree : ℕ → Type 0
 IsDegree n = n < 2 ^ 64

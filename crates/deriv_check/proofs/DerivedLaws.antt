@@ -1,8 +1,8 @@
 -- A line of a derivation, as it is read.
-use Rattle.std.proofs.Common.{◌≡◌, Option, Some, None, ℕ, ◌+◌, ◌-◌, ◌<◌, ◌≤◌, ◌^◌, nat_lt, arith, suc, Bool, true, false, List, [], ◌∷◌, ◌++◌, length, map, take, drop, get_or, refl, sym, ap, subst, ◌∙◌, All, Bor, codes}
+use Rattle.std.proofs.Common.{◌≡◌, Some, None, ℕ, ◌+◌, ◌<◌, ◌≤◌, nat_lt, arith, suc, Bool, true, false, List, [], ◌∷◌, ◌++◌, length, map, take, drop, get_or, refl, sym, ap, subst, ◌∙◌, All, Bor, codes}
 use Rattle.std.specs.Fmt.{decimal}
 use Rattle.std.proofs.lemmas.Bool.Decides.{nat_tests}
-use Rattle.std.proofs.lemmas.List.{take_at, drop_at, length-map, length-append, length-drop, get_or_at, get_or_append_left, get_or-map, get_or-take, drop-map, take-append-drop, drop_more, take_all}
+use Rattle.std.proofs.lemmas.List.{take_at, drop_at, length-map, length-append, get_or_at, get_or_append_left, get_or-map, get_or-take, drop-map, take-append-drop, drop_more}
 use Rattle.std.proofs.lemmas.List.Elements.{All-get_or, All-head}
 use Rattle.pb_core.specs.declared.literal.Lit.{Lit}
 use Rattle.deriv_check.specs.EvidenceForm.{IsLine, IsLiteral, IsHint}

@@ -1,8 +1,8 @@
 -- The lines of an evidence, as they are read.
-use Rattle.std.proofs.Common.{◌≡◌, ℕ, ◌+◌, ◌-◌, ◌<◌, ◌≤◌, ◌⊎◌, inl, inr, arith, suc, Bool, List, [], ◌∷◌, ◌++◌, length, map, take, drop, replicate, get_or, Option, Some, None, Result, Ok, Err, refl, sym, ap, subst, ◌∙◌, All, AllPairs, Bor, codes}
+use Rattle.std.proofs.Common.{◌≡◌, ℕ, ◌+◌, ◌<◌, ◌≤◌, arith, List, [], ◌∷◌, ◌++◌, length, map, take, drop, replicate, get_or, Some, None, Err, refl, sym, ap, subst, Bor}
 use Rattle.std.specs.Str.{IsUtf8}
 use Rattle.std.proofs.lemmas.Str.{IsUtf8-nil}
-use Rattle.std.proofs.lemmas.List.{length-replicate, length-map, length-append, length-take, take-map, drop-map, append_cancel_left, append-nil}
+use Rattle.std.proofs.lemmas.List.{length-replicate, length-map, length-append, length-take, take-map, drop-map}
 use Rattle.std.proofs.lemmas.List.Elements.{All-nil, All-replicate}
 use Rattle.pb_core.specs.declared.constraint.Constraint.{Constraint}
 use Rattle.pb_core.specs.declared.constraint.Origin.TheVariants as origin
@@ -12,10 +12,9 @@ use Rattle.deriv_check.specs.declared.derivation.Evidence.{Evidence}
 use Rattle.deriv_check.specs.declared.derivation.Line.{Line}
 use Rattle.deriv_check.specs.declared.stop.Stop.{Stop}
 use Rattle.deriv_check.specs.declared.stop.Stop.TheVariants as stop
-use Rattle.deriv_check.specs.EvidenceAnswers.{AnswersLines}
-use Rattle.deriv_check.specs.EvidenceForm.{IsCount, IsConstraintOver, IsLine, IsProblem, IsDerivation, IsEvidence, BeginsProblem, IsSkipped, DenotesEvidence, BeginsEvidence, IsFirstBadLine}
+use Rattle.deriv_check.specs.EvidenceForm.{IsCount, IsConstraintOver, IsLine, IsProblem, IsDerivation, IsEvidence}
 use Rattle.deriv_check.specs.EvidenceText.{label_line, constraint_line, derived_line, problem_line, derivation_line, problem_lines, derivation_lines, evidence_lines}
-use Rattle.deriv_check.specs.Reading.{Reading, IsFront, BeginsLines, Begun, Stops, Parses, IsListOf, IsPairOf, pair_lines, AreCounts, AreVariables, variable_lines, stop_behind, StopsWithin, seen}
+use Rattle.deriv_check.specs.Reading.{Reading, IsFront, Begun, Stops, Parses, IsListOf, IsPairOf, pair_lines, AreCounts, AreVariables, variable_lines, stop_behind, StopsWithin, seen}
 use Rattle.deriv_check.proofs.ReadingLaws.{no_word}
 use Rattle.deriv_check.proofs.FormLaws.{begun-one, stops-one, stops-empty, begun-list, stops-list, begun-pair, stops-pair_first, stops-pair_second, IsSameForm, begun-along, stops-along}
 

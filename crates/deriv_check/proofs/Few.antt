@@ -1,5 +1,5 @@
 -- What holds of each of a few.
-use Rattle.std.proofs.Common.{List, [], ◌∷◌, All}
+use Rattle.std.proofs.Common.{[], ◌∷◌, All}
 use Rattle.std.proofs.lemmas.List.Elements.{All-nil, All-cons}
 
 pub all_one : {X : Type 0} (P : X → Type 0) (a : X) → P a → All P (a ∷ [])

@@ -1,8 +1,8 @@
 -- Facts on lines that begin with those of a value.
-use Rattle.std.proofs.Common.{◌≡◌, ℕ, ◌+◌, ◌-◌, ◌<◌, ◌≤◌, min, arith, suc, zero, List, [], ◌∷◌, ◌++◌, length, take, drop, map, replicate, get_or, Option, Some, None, refl, sym, ap, subst, ◌∙◌, append_assoc, All}
-use Rattle.std.proofs.lemmas.List.{append-nil, append_cancel_left, map-append, length-map, length-append, length-take, length-take-le, length-replicate, take-append-drop, take-append-le, take-take, take_all, take_at, drop_at, drop-drop, get_or-take, get_or-map, get_or_append_left}
+use Rattle.std.proofs.Common.{◌≡◌, ℕ, ◌+◌, ◌-◌, ◌<◌, arith, suc, List, [], ◌∷◌, ◌++◌, length, take, drop, map, replicate, get_or, Some, None, refl, sym, ap, subst, ◌∙◌, append_assoc}
+use Rattle.std.proofs.lemmas.List.{append_cancel_left, map-append, length-map, length-append, length-take, length-replicate, take-append-drop, take-take, drop-drop, get_or-take, get_or-map, get_or_append_left}
 use Rattle.std.proofs.lemmas.List.Elements.{All-append, All-replicate, All-get_or}
-use Rattle.deriv_check.specs.Reading.{Reading, IsFront, BeginsLines, Begun, Stops, IsListOf, IsPairOf, pair_lines}
+use Rattle.deriv_check.specs.Reading.{Reading, IsFront, Begun, Stops, IsListOf, IsPairOf, pair_lines}
 
 -- lists that begin alike and are as long are the same
 pub same_front : {W : Type 0} (a b x y : List W) → length a ≡ length b → a ++ x ≡ b ++ y → a ≡ b

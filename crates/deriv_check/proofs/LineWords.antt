@@ -1,14 +1,12 @@
 -- The words of lines are words.
-use Rattle.std.proofs.Common.{◌≡◌, ℕ, ◌+◌, ◌<◌, ◌≤◌, ◌^◌, arith, List, [], ◌∷◌, ◌++◌, length, map, drop, get_or, Option, Some, None, refl, sym, ap, subst, ◌∙◌, append_assoc, All, Bor, codes}
+use Rattle.std.proofs.Common.{ℕ, arith, List, [], ◌∷◌, map, codes}
 use Rattle.std.specs.Str.{IsUtf8}
 use Rattle.std.specs.Fmt.{decimal}
-use Rattle.std.proofs.lemmas.List.{take_at, drop_at, take_all, take-append-drop, length-map, length-append, append_cancel_left, drop_more}
-use Rattle.std.proofs.lemmas.List.Elements.{All-nil, All-cons, All-append, All-map, All-weaker}
+use Rattle.std.proofs.lemmas.List.Elements.{All-cons, All-append, All-map, All-weaker}
 use Rattle.osgi_version.specs.Field.{field}
-use Rattle.pb_core.specs.declared.literal.Lit.{Lit}
 use Rattle.deriv_check.specs.EvidenceForm.{IsCount, IsLine, IsLiteral, IsHint}
 use Rattle.deriv_check.specs.EvidenceText.{lit_word, label_words, derived_words, problem_words, derivation_words}
-use Rattle.deriv_check.specs.Reading.{Reading, IsFront, AreCounts, seen}
+use Rattle.deriv_check.specs.Reading.{AreCounts}
 use Rattle.deriv_check.specs.Terms.{derived_parts}
 use Rattle.deriv_check.specs.declared.derivation.Line.{Line}
 use Rattle.deriv_check.proofs.Few.{all_one, all_two, all_three, all_four}

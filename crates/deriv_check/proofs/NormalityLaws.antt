@@ -1,12 +1,11 @@
 -- Facts on normal constraints.
-use Rattle.std.proofs.Common.{◌≡◌, ℕ, ◌+◌, ◌-◌, ◌<◌, ◌≤◌, ◌^◌, nat_lt, arith, Bool, true, false, List, length, map, get_or, take, drop, refl, sym, ap, ◌∙◌, All}
-use Rattle.std.specs.List.{sum_by}
+use Rattle.std.proofs.Common.{◌≡◌, ℕ, ◌+◌, ◌-◌, ◌<◌, ◌≤◌, ◌^◌, nat_lt, arith, Bool, true, false, List, length, map, get_or, take, refl, ap, ◌∙◌, All}
 use Rattle.std.specs.List.Sorted.{IsStrictlyIncreasing}
 use Rattle.std.proofs.lemmas.Bool.Decides.{nat_tests}
 use Rattle.std.proofs.lemmas.List.{get_or_default, get_or-map, length-map}
 use Rattle.std.proofs.lemmas.List.Elements.{All-weaker}
 use Rattle.std.proofs.lemmas.List.Sums.{sum_by_more, sum_by-take-le}
-use Rattle.pb_core.specs.Normal.{IsNormal, IsNormalOver}
+use Rattle.pb_core.specs.Normal.{IsNormalOver}
 use Rattle.pb_core.specs.Slack.{coef_sum}
 use Rattle.pb_core.specs.declared.literal.Term.{Term}
 use Rattle.deriv_check.specs.Terms.{IsTermOver, constraint_of}

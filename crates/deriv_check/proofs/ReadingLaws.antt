@@ -1,11 +1,11 @@
 -- Facts on readers of words and of lines.
-use Rattle.std.proofs.Common.{◌≡◌, ◌==◌, Bool, true, false, not, ℕ, ◌+◌, ◌-◌, ◌<◌, ◌≤◌, ◌⊎◌, inl, inr, min, arith, suc, zero, List, [], ◌∷◌, ◌++◌, length, take, drop, map, replicate, get_or, Option, Some, None, Result, Ok, Err, IfOk, refl, sym, ap, subst, ◌∙◌, append_assoc, All, Bor}
-use Rattle.std.proofs.lemmas.List.{append-nil, append_cancel_left, map-append, length-map, length-append, length-take, length-take-le, length-replicate, take-append-drop, take-append-le, take-take, take_all, take_more, take_at, drop_at, get_or-take, get_or-map, get_or_append_left, length_push, map_push, same_from_push}
-use Rattle.std.proofs.lemmas.List.Elements.{All-nil, All-push, All-pop, All-append, All-replicate, All-get_or}
+use Rattle.std.proofs.Common.{◌≡◌, ◌==◌, Bool, true, false, not, ℕ, ◌+◌, ◌<◌, ◌≤◌, arith, List, [], ◌∷◌, ◌++◌, length, take, drop, map, get_or, Option, Some, None, Result, Ok, Err, IfOk, refl, sym, ap, ◌∙◌, All, Bor}
+use Rattle.std.proofs.lemmas.List.{length-map, take_all, take_more, get_or-map, length_push, map_push, same_from_push}
+use Rattle.std.proofs.lemmas.List.Elements.{All-nil, All-push, All-pop, All-get_or}
 use Rattle.std.specs.Str.{bytes_eq}
 use Rattle.std.proofs.lemmas.Bool.Decides.{nat_tests}
 use Rattle.std.proofs.lemmas.Slice.Eq.{bytes_eq-Decides}
-use Rattle.deriv_check.specs.Reading.{Reading, seen, IsFront, BeginsLines, Begun, Stops, IsListOf, IsPairOf, pair_lines}
+use Rattle.deriv_check.specs.Reading.{Reading, seen, IsFront}
 
 -- the values of the first words or lines
 pub record IsReadUpTo {X W : Type 0} (Valid : X → Type 0) (spell : X → W) (written : List W) (count : ℕ) (found : List X) : Type 0 where

@@ -1,14 +1,14 @@
 -- The line that may stand before an evidence.
-use Rattle.std.proofs.Common.{◌≡◌, ℕ, ◌+◌, ◌-◌, ◌<◌, ◌≤◌, arith, suc, zero, List, [], ◌∷◌, ◌++◌, length, take, drop, Result, Ok, Err, refl, sym, ap, subst, ◌∙◌, codes}
+use Rattle.std.proofs.Common.{◌≡◌, ℕ, ◌+◌, ◌-◌, ◌<◌, arith, suc, List, [], ◌∷◌, ◌++◌, length, take, drop, Result, Ok, Err, refl, sym, ap, subst, ◌∙◌}
 use Rattle.std.specs.Fmt.{decimal}
-use Rattle.std.proofs.lemmas.List.{append-nil, append_assoc}
+use Rattle.std.proofs.lemmas.List.{append-nil}
 use Rattle.deriv_check.specs.declared.derivation.Evidence.{Evidence}
 use Rattle.deriv_check.specs.declared.stop.Stop.{Stop}
 use Rattle.deriv_check.specs.declared.stop.Stop.TheVariants as stop
 use Rattle.deriv_check.specs.EvidenceAnswers.{AnswersLines}
-use Rattle.deriv_check.specs.EvidenceForm.{IsEvidence, BeginsProblem, IsSkipped, DenotesEvidence, BeginsEvidence, IsFirstBadLine}
+use Rattle.deriv_check.specs.EvidenceForm.{IsEvidence, BeginsProblem, IsSkipped, DenotesEvidence}
 use Rattle.deriv_check.specs.EvidenceText.{problem_line, evidence_lines}
-use Rattle.deriv_check.specs.Reading.{Begun, Stops, Parses, stop_behind}
+use Rattle.deriv_check.specs.Reading.{Parses, stop_behind}
 
 problem_begins : (counts : ℕ × ℕ) → BeginsProblem (problem_line counts)
 unfolding problem_line

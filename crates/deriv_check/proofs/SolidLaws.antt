@@ -1,5 +1,5 @@
 -- Words have no blank.
-use Rattle.std.proofs.Common.{◌≡◌, ℕ, ◌<◌, ◌^◌, arith, Bool, true, false, List, [], ◌∷◌, ◌++◌, refl, All, codes}
+use Rattle.std.proofs.Common.{◌≡◌, ℕ, arith, Bool, true, false, List, [], ◌∷◌, refl, codes}
 use Rattle.std.specs.Fmt.{decimal}
 use Rattle.std.proofs.lemmas.List.Elements.{All-cons, All-append}
 use Rattle.osgi_version.specs.Field.{field}
@@ -8,7 +8,7 @@ use Rattle.pb_core.specs.declared.constraint.Origin.TheVariants as origin
 use Rattle.pb_core.specs.declared.literal.Lit.{Lit}
 use Rattle.pb_core.specs.declared.literal.Term.{Term}
 use Rattle.deriv_check.specs.EvidenceForm.{IsOrigin, IsLiteral, IsHint}
-use Rattle.deriv_check.specs.EvidenceText.{lit_word, term_word, pair_word, origin_word, root_word}
+use Rattle.deriv_check.specs.EvidenceText.{lit_word, term_word, pair_word, origin_word}
 use Rattle.deriv_check.specs.Terms.{IsTerm}
 use Rattle.deriv_check.proofs.Few.{all_three, all_four}
 use Rattle.deriv_check.proofs.WordLaws.{IsAbove, IsSolid, decimal_solid, field_solid}

@@ -1,9 +1,9 @@
 -- Facts on what is written.
-use Rattle.std.proofs.Common.{◌≡◌, ℕ, ◌+◌, ◌<◌, ◌≤◌, ◌^◌, nat_lt, Bool, true, false, arith, List, [], ◌∷◌, ◌++◌, length, map, take, get_or, refl, sym, ap, subst, ◌∙◌, append_assoc, All, codes}
+use Rattle.std.proofs.Common.{◌≡◌, ℕ, ◌+◌, ◌<◌, ◌≤◌, nat_lt, Bool, true, false, arith, List, [], ◌∷◌, ◌++◌, length, map, take, get_or, refl, sym, ap, subst, ◌∙◌, append_assoc, All, codes}
 use Rattle.std.specs.List.{flat_map}
 use Rattle.std.specs.Fmt.{decimal}
 use Rattle.std.specs.Str.{IsAscii, IsUtf8}
-use Rattle.std.proofs.lemmas.List.{append-nil, take_more, flat_map_more, take_all, get_or_past}
+use Rattle.std.proofs.lemmas.List.{append-nil, take_more, flat_map_more, get_or_past}
 use Rattle.std.proofs.lemmas.Bool.Decides.{nat_tests}
 use Rattle.std.proofs.lemmas.List.Concat.{flat_map-append}
 use Rattle.std.proofs.lemmas.List.Elements.{All-append, All-cons, All-map, All-weaker}
@@ -12,11 +12,10 @@ use Rattle.pb_core.specs.AtLeast.{at_least}
 use Rattle.pb_core.specs.Normal.{IsNormalOver}
 use Rattle.pb_core.specs.declared.constraint.Constraint.{Constraint}
 use Rattle.pb_core.specs.declared.constraint.Problem.{Problem}
-use Rattle.deriv_check.specs.declared.derivation.Derivation.{Derivation}
 use Rattle.deriv_check.specs.declared.derivation.Evidence.{Evidence}
 use Rattle.deriv_check.specs.declared.derivation.Line.{Line}
-use Rattle.deriv_check.specs.EvidenceForm.{IsCount, IsLine, IsOrigin, IsNamed, IsConstraintOver, IsProblem, IsDerivation, IsEvidence, DenotesEvidence, whole_lines}
-use Rattle.deriv_check.specs.EvidenceText.{lit_word, term_word, origin_word, spaced, label_words, constraint_words, derived_words, problem_words, derivation_words, label_line, constraint_line, derived_line, problem_line, derivation_line, problem_lines, derivation_lines, evidence_lines, evidence_text, ended}
+use Rattle.deriv_check.specs.EvidenceForm.{IsCount, IsLine, IsOrigin, IsNamed, IsConstraintOver, IsProblem, IsEvidence, DenotesEvidence, whole_lines}
+use Rattle.deriv_check.specs.EvidenceText.{lit_word, term_word, origin_word, label_words, constraint_words, derived_words, problem_words, derivation_words, label_line, constraint_line, derived_line, problem_line, derivation_line, problem_lines, derivation_lines, evidence_lines, evidence_text, ended}
 use Rattle.deriv_check.proofs.ConstraintLaws.{constraint_are_words}
 use Rattle.deriv_check.proofs.LineWords.{label_are_words, derived_are_words, problem_are_words, derivation_are_words}
 use Rattle.deriv_check.proofs.WordLaws.{IsOneLine, spaced_line, whole_lines-ended, ended_ascii}

@@ -1,5 +1,5 @@
 -- Which evidence has a text, and which texts are read.
-use Rattle.std.specs.Prelude.{◌≡◌, ℕ, ◌+◌, ◌-◌, ◌<◌, ◌≤◌, ◌^◌, ◌==◌, ◌⊎◌, ⊤, List, [], ◌∷◌, ◌++◌, length, take, codes, All, slice_index_or}
+use Rattle.std.specs.Prelude.{◌≡◌, ℕ, ◌+◌, ◌-◌, ◌<◌, ◌≤◌, ◌^◌, ◌==◌, ⊤, List, [], ◌∷◌, ◌++◌, length, take, codes, All, slice_index_or}
 use Rattle.std.specs.List.{slice_split}
 use Rattle.std.specs.Str.{IsUtf8}
 use Rattle.pb_core.specs.AtLeast.{at_least}

@@ -1,4 +1,4 @@
-use Rattle.std.proofs.Common.{◌≡◌, ℕ, ◌<◌, ◌^◌, arith, List, Option, None, Some, subst, sym}
+use Rattle.std.proofs.Common.{◌≡◌, ℕ, arith, Option, subst}
 use Rattle.std.specs.Fmt.{decimal}
 use Rattle.deriv_check.specs.EvidenceForm.{IsHint}
 use Rattle.deriv_check.specs.Colon.{NoColon}

@@ -1,4 +1,4 @@
-use Rattle.std.proofs.Common.{ℕ, ◌+◌, arith, subst, sym, List, Option, get_or}
+use Rattle.std.proofs.Common.{◌+◌, arith, subst, sym, List, Option, get_or}
 use Rattle.deriv_check.specs.EvidenceForm.{IsConstraintOver}
 use Rattle.deriv_check.specs.EvidenceText.{constraint_line}
 use Rattle.pb_core.specs.declared.constraint.Constraint.{Constraint}

@@ -1,5 +1,4 @@
-use Rattle.std.proofs.Common.{◌≡◌, ◌==◌, ℕ, List, Result, IfOk, sym, ap, ◌∙◌}
-use Rattle.std.specs.List.{slice_split}
+use Rattle.std.proofs.Common.{ap, ◌∙◌}
 use Rattle.deriv_check.specs.EvidenceForm.{IsConstraintOver}
 use Rattle.deriv_check.specs.EvidenceText.{constraint_words, constraint_line}
 use Rattle.deriv_check.specs.Reading.{seen}

@@ -1,4 +1,4 @@
-use Rattle.std.proofs.Common.{◌≡◌, ℕ, ◌<◌, ◌^◌, IsTrue, Bool, true, false, Option, None, Some, subst, sym, ap, ◌∙◌, arith, length, List}
+use Rattle.std.proofs.Common.{ℕ, ◌<◌, ◌^◌, Option, None, Some, subst, sym, arith, length, List}
 use Rattle.std.specs.Fmt.{decimal}
 use Rattle.pb_core.specs.Normal.{IsNormalOver}
 use Rattle.pb_core.specs.declared.constraint.Origin.{Origin}

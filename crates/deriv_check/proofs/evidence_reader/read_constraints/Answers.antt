@@ -1,5 +1,4 @@
-use Rattle.std.proofs.Common.{◌≡◌, ℕ, List, [], Bor, length, map, subst, sym, ap, ◌∙◌, arith}
-use Rattle.pb_core.specs.declared.constraint.Constraint.{Constraint}
+use Rattle.std.proofs.Common.{ℕ, List, Bor, map, subst, sym, arith}
 use Rattle.deriv_check.specs.EvidenceForm.{IsConstraintOver}
 use Rattle.deriv_check.proofs.EvidenceLaws.{list_found, list_stops, spare_constraint, no_constraint_over}
 use Rattle.deriv_check.specs.EvidenceText.{constraint_line}

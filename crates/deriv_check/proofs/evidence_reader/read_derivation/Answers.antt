@@ -1,4 +1,4 @@
-use Rattle.std.proofs.Common.{◌≡◌, ◌≤◌, ◌==◌, ℕ, List, [], Option, Some, None, Bor, Result, Ok, Err, length, map, drop, replicate, get_or, subst, sym, ap, ◌∙◌, arith, true, false}
+use Rattle.std.proofs.Common.{ℕ, List, Option, Bor, Err, length, map, replicate, get_or, subst, sym, ◌∙◌, arith}
 use Rattle.std.proofs.lemmas.List.{take_rest, length-replicate}
 use Rattle.std.proofs.lemmas.List.Elements.{All-replicate}
 use Rattle.deriv_check.specs.EvidenceForm.{IsCount, IsLine, IsDerivation}

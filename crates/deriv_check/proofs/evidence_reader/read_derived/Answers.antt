@@ -1,6 +1,5 @@
-use Rattle.std.proofs.Common.{◌≡◌, ℕ, List, [], Bor, length, map, subst, sym, ap, ◌∙◌, arith}
+use Rattle.std.proofs.Common.{ℕ, List, Bor, map, subst, sym, arith}
 use Rattle.deriv_check.specs.EvidenceForm.{IsLine}
-use Rattle.deriv_check.specs.declared.derivation.Line.{Line}
 use Rattle.deriv_check.proofs.EvidenceLaws.{list_found, list_stops, spare_line, spare_line_is}
 use Rattle.deriv_check.specs.EvidenceText.{derived_line}
 use Rattle.deriv_check.specs.Reading.{IsFront, Stops, IsListOf, seen}

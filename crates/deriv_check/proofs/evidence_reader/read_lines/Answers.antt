@@ -1,9 +1,9 @@
-use Rattle.std.proofs.Common.{◌≡◌, ◌+◌, ℕ, List, [], Bor, Result, Ok, Err, length, map, drop, subst, sym, ap, ◌∙◌, arith}
+use Rattle.std.proofs.Common.{◌≡◌, ◌+◌, ℕ, List, [], Bor, Result, Ok, Err, length, drop, subst, sym, ap, ◌∙◌, arith}
 use Rattle.std.proofs.lemmas.List.{take_rest}
 use Rattle.pb_core.specs.declared.constraint.Problem.{Problem}
 use Rattle.deriv_check.specs.EvidenceForm.{IsProblem, IsDerivation, IsEvidence}
 use Rattle.deriv_check.specs.EvidenceText.{problem_lines, derivation_lines, evidence_lines}
-use Rattle.deriv_check.specs.Reading.{Begun, Parses, stop_behind, seen}
+use Rattle.deriv_check.specs.Reading.{Parses, stop_behind, seen}
 use Rattle.deriv_check.specs.declared.derivation.Derivation.{Derivation}
 use Rattle.deriv_check.specs.declared.stop.Stop.{Stop}
 use Rattle.deriv_check.proofs.FormLaws.{begun-pair, begun-along}

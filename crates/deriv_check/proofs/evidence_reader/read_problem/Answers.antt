@@ -1,10 +1,9 @@
-use Rattle.std.proofs.Common.{◌≡◌, ◌≤◌, ◌==◌, ℕ, List, [], Option, Some, None, Bor, Result, Ok, Err, length, map, drop, replicate, get_or, subst, sym, ap, ◌∙◌, arith, true, false}
-use Rattle.std.proofs.lemmas.Bool.Decides.{nat_tests}
+use Rattle.std.proofs.Common.{ℕ, List, [], Option, Bor, Err, length, replicate, get_or, subst, sym, ◌∙◌, arith}
 use Rattle.std.proofs.lemmas.List.{take_rest}
 use Rattle.pb_core.specs.declared.constraint.Constraint.{Constraint}
 use Rattle.deriv_check.specs.EvidenceForm.{IsProblem}
 use Rattle.deriv_check.specs.EvidenceText.{problem_line, problem_lines}
-use Rattle.deriv_check.specs.Reading.{Reading, Begun, Parses, AreCounts, AreVariables, variable_lines, stop_behind, seen}
+use Rattle.deriv_check.specs.Reading.{Reading, Parses, AreCounts, AreVariables, variable_lines, seen}
 use Rattle.deriv_check.specs.declared.stop.Stop.{Stop}
 use Rattle.deriv_check.proofs.ReadingLaws.{no_word, no_length, some_length}
 use Rattle.deriv_check.proofs.EvidenceLaws.{head_empty, head_refused, head_found, head_stops, problem_of, counted, same_problem, spare_constraint, spare_variables_are}

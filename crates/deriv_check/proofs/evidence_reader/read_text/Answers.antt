@@ -1,5 +1,5 @@
-use Rattle.std.proofs.Common.{◌≡◌, ◌+◌, ℕ, List, [], ◌∷◌, Bor, Result, Ok, Err, IsTrue, true, false, length, map, drop, get_or, subst, sym, ap, ◌∙◌, refl, arith}
-use Rattle.std.proofs.lemmas.List.{take_rest, nil_from_length}
+use Rattle.std.proofs.Common.{◌≡◌, ℕ, List, [], ◌∷◌, Bor, Ok, Err, length, drop, get_or, subst, sym, ◌∙◌, arith}
+use Rattle.std.proofs.lemmas.List.{take_rest}
 use Rattle.deriv_check.specs.EvidenceAnswers.{AnswersLines}
 use Rattle.deriv_check.specs.EvidenceForm.{IsEvidence, BeginsProblem}
 use Rattle.deriv_check.specs.EvidenceText.{evidence_lines}

@@ -1,11 +1,11 @@
-use Rattle.std.proofs.Common.{◌≡◌, ℕ, List, [], Bor, Result, Ok, Err, length, map, drop, replicate, subst, sym, ap, ◌∙◌, arith}
+use Rattle.std.proofs.Common.{◌≡◌, ℕ, List, Bor, Result, Ok, Err, length, map, drop, replicate, subst, sym, ap, ◌∙◌}
 use Rattle.std.specs.Str.{IsUtf8}
 use Rattle.std.proofs.lemmas.List.{take_rest, length-map, length-replicate}
 use Rattle.std.proofs.lemmas.List.Elements.{All-replicate}
 use Rattle.pb_core.specs.declared.constraint.Constraint.{Constraint}
 use Rattle.deriv_check.specs.EvidenceForm.{IsConstraintOver}
 use Rattle.deriv_check.specs.EvidenceText.{label_line, constraint_line}
-use Rattle.deriv_check.specs.Reading.{Begun, Parses, IsListOf, AreVariables, variable_lines, stop_behind, seen}
+use Rattle.deriv_check.specs.Reading.{Parses, IsListOf, AreVariables, variable_lines, stop_behind, seen}
 use Rattle.deriv_check.specs.declared.stop.Stop.{Stop}
 use Rattle.deriv_check.proofs.FormLaws.{begun-pair}
 use Rattle.deriv_check.proofs.EvidenceLaws.{pair_first, pair_second, seen-drop, spare_constraint, no_constraint_over}

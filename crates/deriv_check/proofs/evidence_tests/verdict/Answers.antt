@@ -1,4 +1,4 @@
-use Rattle.deriv_check.specs.EvidenceForm.{IsEvidence, DenotesEvidence}
+use Rattle.deriv_check.specs.EvidenceForm.{IsEvidence}
 use Rattle.deriv_check.proofs.evidence_tests.verdict.Goals as goal
 
 pub check-requires : goal.check-requires

@@ -1,4 +1,4 @@
-use Rattle.std.proofs.Common.{◌≡◌, ℕ, List, [], ◌∷◌, ◌++◌, codes, ap, sym, ◌∙◌}
+use Rattle.std.proofs.Common.{ℕ, List, [], ◌∷◌, ◌++◌, codes, ap, sym, ◌∙◌}
 use Rattle.osgi_version.specs.Field.{field}
 use Rattle.deriv_check.proofs.WritingLaws.{join_two, label_spelled}
 use Rattle.deriv_check.proofs.evidence_writer.push_label.Goals as goal

@@ -1,4 +1,4 @@
-use Rattle.std.proofs.Common.{◌≡◌, ℕ, List, Result, Ok, Err, IfOk, ap, sym, ◌∙◌}
+use Rattle.std.proofs.Common.{◌≡◌, ℕ, List, Result, Ok, Err, IfOk, ◌∙◌}
 use Rattle.deriv_check.specs.declared.derivation.Evidence.{Evidence}
 use Rattle.deriv_check.specs.EvidenceForm.{IsEvidence, DenotesEvidence, whole_lines}
 use Rattle.deriv_check.specs.EvidenceText.{evidence_text}

@@ -1,4 +1,4 @@
-use Rattle.std.proofs.Common.{ℕ, ◌+◌, arith, subst, sym, List, Option, get_or}
+use Rattle.std.proofs.Common.{◌+◌, arith, subst, sym, List, Option, get_or}
 use Rattle.deriv_check.specs.EvidenceForm.{IsLine}
 use Rattle.deriv_check.specs.EvidenceText.{derived_line}
 use Rattle.deriv_check.specs.declared.derivation.Line.{Line}

@@ -1,6 +1,5 @@
 use Rattle.deriv_check.specs.EvidenceForm.{IsLine}
 use Rattle.deriv_check.specs.EvidenceText.{derived_line}
-use Rattle.deriv_check.specs.declared.derivation.Line.{Line}
 use Rattle.deriv_check.specs.Reading.{seen}
 use Rattle.deriv_check.proofs.ReadingLaws.{IsReadUpTo}
 use Rattle.deriv_check.proofs.line_reader.front_lines.Given as goal

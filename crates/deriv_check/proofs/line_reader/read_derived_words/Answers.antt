@@ -1,4 +1,4 @@
-use Rattle.std.proofs.Common.{◌≡◌, ◌≤◌, ◌==◌, ℕ, List, ◌∷◌, false, sym, ap, ◌∙◌, arith, length, drop, get_or, codes}
+use Rattle.std.proofs.Common.{◌≡◌, ◌≤◌, ◌==◌, ℕ, ◌∷◌, false, sym, ap, ◌∙◌, arith, length, drop, get_or, codes}
 use Rattle.std.proofs.lemmas.Bool.Decides.{nat_tests}
 use Rattle.std.proofs.lemmas.List.{take_rest}
 use Rattle.deriv_check.specs.EvidenceForm.{IsLine}

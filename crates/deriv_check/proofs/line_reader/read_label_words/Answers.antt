@@ -1,4 +1,4 @@
-use Rattle.std.proofs.Common.{◌≡◌, ℕ, List, [], ◌∷◌, sym, ap, ◌∙◌, arith, get_or, codes}
+use Rattle.std.proofs.Common.{◌≡◌, [], ◌∷◌, sym, ap, ◌∙◌, get_or, codes}
 use Rattle.std.specs.Str.{IsUtf8}
 use Rattle.osgi_version.specs.Field.{field}
 use Rattle.deriv_check.specs.Reading.{seen}

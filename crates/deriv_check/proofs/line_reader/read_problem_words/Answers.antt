@@ -1,8 +1,7 @@
-use Rattle.std.proofs.Common.{◌≡◌, ℕ, List, [], ◌∷◌, Option, Some, subst, sym, ap, ◌∙◌, arith, get_or, drop, length, codes}
+use Rattle.std.proofs.Common.{◌≡◌, ℕ, List, [], ◌∷◌, Option, subst, sym, ◌∙◌, arith, get_or, drop, codes}
 use Rattle.std.specs.Fmt.{decimal}
 use Rattle.std.proofs.lemmas.List.{nil_from_length, length-drop}
 use Rattle.deriv_check.specs.EvidenceForm.{IsCount}
-use Rattle.deriv_check.specs.EvidenceText.{problem_words}
 use Rattle.deriv_check.specs.Reading.{Reading, seen}
 use Rattle.deriv_check.proofs.ReadingLaws.{no_word, seen_three, same_bytes}
 use Rattle.deriv_check.proofs.line_reader.read_problem_words.Goals as goal

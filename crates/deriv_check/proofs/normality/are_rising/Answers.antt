@@ -1,4 +1,4 @@
-use Rattle.std.proofs.Common.{arith, refl}
+use Rattle.std.proofs.Common.{refl}
 use Rattle.deriv_check.proofs.NormalityLaws.{rising_more, rising_all, not_rising}
 use Rattle.deriv_check.proofs.normality.are_rising.Goals as goal
 

@@ -1,4 +1,4 @@
-use Rattle.std.proofs.Common.{ℕ, ◌+◌, arith, subst, sym, List, Option, get_or}
+use Rattle.std.proofs.Common.{◌+◌, arith, subst, sym, List, Option, get_or}
 use Rattle.deriv_check.specs.EvidenceForm.{IsLiteral}
 use Rattle.deriv_check.specs.EvidenceText.{lit_word}
 use Rattle.pb_core.specs.declared.literal.Lit.{Lit}

@@ -1,4 +1,4 @@
-use Rattle.std.proofs.Common.{ℕ, ◌+◌, arith, subst, sym, List, Option, get_or}
+use Rattle.std.proofs.Common.{◌+◌, arith, subst, sym, List, Option, get_or}
 use Rattle.deriv_check.specs.Terms.{IsTerm}
 use Rattle.deriv_check.specs.EvidenceText.{term_word}
 use Rattle.pb_core.specs.declared.literal.Term.{Term}

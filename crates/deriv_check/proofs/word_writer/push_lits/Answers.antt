@@ -1,4 +1,3 @@
-use Rattle.std.proofs.Common.{arith}
 use Rattle.std.proofs.lemmas.List.Elements.{All-more}
 use Rattle.deriv_check.specs.EvidenceForm.{IsLiteral}
 use Rattle.deriv_check.specs.EvidenceText.{lit_word}

@@ -1,6 +1,7 @@
 //! Tables of filters' texts.
 
 use crate::{Filter, FilterFault};
+use osgi_version::{NoMemory, Text};
 use std::alloc::Global;
 use std::test::Fail;
 
@@ -75,7 +76,7 @@ fn other_texts_are_refused(rt: HostRuntime) -> Result<(), Fail> {
 }
 
 /// As many times `(!`, and then `(a=b)` and as many times `)`.
-fn nested(alloc: Global, levels: usize) -> Result<String, Fail> {
+fn nested(alloc: Global, levels: usize) -> Result<Text, NoMemory> {
     let mut text = String::new(alloc);
     for _ in 0..levels {
         text.push_str("(!")?;
@@ -84,7 +85,7 @@ fn nested(alloc: Global, levels: usize) -> Result<String, Fail> {
     for _ in 0..levels {
         text.push(')')?;
     }
-    Ok(text)
+    Text::from_str(alloc, text.as_str())
 }
 
 #[test]
@@ -92,7 +93,7 @@ fn nesting_ends_at_64(rt: HostRuntime) -> Result<(), Fail> {
     let alloc = rt.alloc();
     for (levels, wanted) in [(62, None), (63, None), (64, Some(128)), (65, Some(128))] {
         let text = nested(alloc, levels)?;
-        let found = match Filter::parse(alloc, text.as_bytes()) {
+        let found = match Filter::parse(alloc, text.bytes()) {
             Ok(_) => None,
             Err(FilterFault::Bad { at }) => Some(at),
             Err(FilterFault::NoMemory) => Some(0),

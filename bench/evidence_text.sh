@@ -1,5 +1,5 @@
 #!/usr/bin/env bash
-# What it costs to read, check and write a derivation of 10,000 lines, against one of a tenth of them: the ratios are at
+# What it costs to read, check and write a derivation of 50,000 lines, against one of a tenth of them: the ratios are at
 # most near 1000 % where each call takes time in line with the text. Times are compared within one run only. The program is built
 # anew in a temporary folder and is not proved.
 set -eu
@@ -67,7 +67,7 @@ fn times(rt: &HostRuntime, lines: u32) -> io::Result<Option<(u64, u64, u64)>> {
 }
 
 fn main(rt: HostRuntime) -> io::Result<()> {
-    let (Some(small), Some(large)) = (times(&rt, 1_000)?, times(&rt, 10_000)?) else {
+    let (Some(small), Some(large)) = (times(&rt, 5_000)?, times(&rt, 50_000)?) else {
         return println!(rt; "no evidence");
     };
     let read = large.0 * 100 / (small.0 + 1);
@@ -77,4 +77,4 @@ fn main(rt: HostRuntime) -> io::Result<()> {
 }
 PROGRAM
 cd "$work/crates/bench_evidence"
-rt try 2>&1 | grep '^ten times\|^no evidence\|error'
+rt try --steps 100000000000 --seconds 900 2>&1 | grep '^ten times\|^no evidence\|error'

@@ -53,7 +53,7 @@ pub done_only : (a : Option Told) (b : Option Files) (words : List (List ℕ)) (
     → OnTold a (λ t. OnTold b (λ files. (answer : Status) → IsPlainAnswer answer → IsAnswer words t.now files answer → IsAnswerOrFault answer Done))
 done_only a b words profile unit found =
     both_weaker a b (λ t files. Installs words t.now files profile unit) (λ t files. (answer : Status) → IsPlainAnswer answer → IsAnswer words t.now files answer → IsAnswerOrFault answer Done) found
-    (λ t files i. only_answer words t.now files Done (profile, name, i))
+    (λ t files i. only_answer words t.now files Done (profile, unit, i))
 
 pub failed_printed : (a : Option Told) (b : Option Files) (o p q : Option (List ℕ)) (words : List (List ℕ)) (profile : List ℕ) (unit : Unit) (F K failed : Type 0) (s r : Status) → Fails F K s → Ends s r failed
     → OnTold a (λ t. OnTold b (λ files. Installs words t.now files profile unit))

@@ -13,13 +13,14 @@ use Rattle.director_core.specs.Answer.{IsAsked, AsksFor, HasChild, Chooses, Inst
 use Rattle.director_core.specs.Built.{IsBuilt}
 use Rattle.director_core.specs.Found.{Finds, FindsNone}
 use Rattle.director_core.specs.Laid.{IsBare}
-use Rattle.director_core.specs.Planned.{IsUnplanned}
+use Rattle.director_core.specs.declared.plan.Plan.{Plan}
+use Rattle.director_core.specs.Planned.{IsReady, IsUnplanned}
 use Rattle.director_core.specs.Source.{SourceGives}
 use Rattle.director_core.specs.SourceStop.{StopsReading}
 use Rattle.director_core.specs.Stops.{Stops}
 use Rattle.director_core.proofs.Steps.{both_weaker}
 
-abbrev IsCause : Type 0
+abbrev IsCause : Type 1
 IsCause = Status → Type 0
 
 -- weaker causes
@@ -145,6 +146,21 @@ pub planned_answer : (a : Option Told) (b : Option Files) (words : List (List �
 planned_answer a b words profile unit s chooses h =
     both_weaker a b (λ t files. Chooses words t.now files profile unit) (λ t files. IsAnswer words t.now files s) chooses
     (λ t files c. stage_answer words t.now files (IsUnplanned profile unit) (unplanned words t.now files profile unit c) s h)
+
+-- the plan is for the unit that was chosen
+pub installed : (a : Option Told) (b : Option Files) (words : List (List ℕ)) (profile : List ℕ) (unit : Unit) (plan : Plan)
+    → OnTold a (λ t. OnTold b (λ files. Chooses words t.now files profile unit)) → IsBuilt unit → (plan.profile ≡ profile) × (plan.unit ≡ unit) → IsReady plan
+    → OnTold a (λ t. OnTold b (λ files. Installs words t.now files plan.profile plan.unit))
+installed a b words profile unit plan choice built same ready =
+    both_weaker a b (λ t files. Chooses words t.now files profile unit) (λ t files. Installs words t.now files plan.profile plan.unit) choice
+    (λ t files c.
+    let P : List ℕ → Type 0 = λ p. Chooses words t.now files p unit in
+    let Q : Unit → Type 0 = λ u. Chooses words t.now files plan.profile u in
+    record {
+      chooses = subst Q (sym same.1) (subst P (sym same.0) c);
+      is_built = subst IsBuilt (sym same.1) built;
+      fits = ready.fits;
+    })
 
 -- the root is bare where it has no names below it, and has a child where it has one
 pub still_bare : (a b : Option Told) → Step a b (λ s t. t.now ≡ s.now) → OnTold a (λ s. IsBare s.now) → OnTold b (λ s. IsBare s.now)

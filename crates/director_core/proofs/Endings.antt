@@ -55,13 +55,13 @@ failed_answer words m files profile unit F K (SourceRefused folder why) i h = ab
 failed_answer words m files profile unit F K (Unknown word) i h = absurd h
 failed_answer words m files profile unit F K (Limit what most) i h = absurd h
 failed_answer words m files profile unit F K (FolderFault Unchanged) i h = absurd h
-failed_answer words m files profile unit F K (FolderFault Recover) i h = (profile, name, i)
+failed_answer words m files profile unit F K (FolderFault Recover) i h = (profile, unit, i)
 failed_answer words m files profile unit F K (FolderFault Either) i h = absurd h
 failed_answer words m files profile unit F K SourceFault i h = absurd h
 failed_answer words m files profile unit F K (SinkFault None) i h = tt
-failed_answer words m files profile unit F K (SinkFault (Some number)) i h = (h.0, (profile, name, i))
+failed_answer words m files profile unit F K (SinkFault (Some number)) i h = (h.0, (profile, unit, i))
 failed_answer words m files profile unit F K (NoMemory Unchanged) i h = tt
-failed_answer words m files profile unit F K (NoMemory Recover) i h = (profile, name, i)
+failed_answer words m files profile unit F K (NoMemory Recover) i h = (profile, unit, i)
 failed_answer words m files profile unit F K (NoMemory Either) i h = absurd h
 
 -- ---- no other answer
@@ -296,7 +296,7 @@ failed_leaves words m files profile unit F K failed (FolderFault Recover) r new 
 failed_leaves words m files profile unit F K failed (FolderFault Either) r new i h e l = absurd h
 failed_leaves words m files profile unit F K failed SourceFault r new i h e l = absurd h
 failed_leaves words m files profile unit F K failed (SinkFault None) r new i h e l = let P : Status → Type 0 = λ x. Leaves words m files x new in subst P (sym e) l
-failed_leaves words m files profile unit F K failed (SinkFault (Some number)) r new i h e l = let P : Status → Type 0 = λ x. Leaves words m files x new in subst P (sym e) (profile, name, i, l)
+failed_leaves words m files profile unit F K failed (SinkFault (Some number)) r new i h e l = let P : Status → Type 0 = λ x. Leaves words m files x new in subst P (sym e) (profile, unit, i, l)
 failed_leaves words m files profile unit F K failed (NoMemory Unchanged) r new i h e l = let P : Status → Type 0 = λ x. Leaves words m files x new in subst P (sym e) l
 failed_leaves words m files profile unit F K failed (NoMemory Recover) r new i h e l = let P : Status → Type 0 = λ x. Leaves words m files x new in subst P (sym e) tt
 failed_leaves words m files profile unit F K failed (NoMemory Either) r new i h e l = absurd h
@@ -345,24 +345,24 @@ failed_prints words m files profile unit F K failed (Limit what most) r lines mo
 failed_prints words m files profile unit F K failed (FolderFault Unchanged) r lines more i h e p w = absurd h
 failed_prints words m files profile unit F K failed (FolderFault Recover) r lines more i h e p w =
     let P : Status → Type 0 = λ x. Prints words m files x (lines ++ more) in
-    subst P (sym e) (lines, more, inr (profile, name, i, p), w, refl)
+    subst P (sym e) (lines, more, inr (profile, unit, i, p), w, refl)
 failed_prints words m files profile unit F K failed (FolderFault Either) r lines more i h e p w = absurd h
 failed_prints words m files profile unit F K failed SourceFault r lines more i h e p w = absurd h
 failed_prints words m files profile unit F K failed (SinkFault None) r lines more i h e p w =
     let P : Status → Type 0 = λ x. Prints words m files x (lines ++ more) in
     let all : lines ++ more ≡ lines = ap (λ (x : List ℕ). lines ++ x) w ∙ append-nil lines in
     let Q : List ℕ → Type 0 = λ x. IsFront x (plan_lines profile unit) in
-    subst P (sym e) (inr (profile, name, i, subst Q (sym all) p))
+    subst P (sym e) (inr (profile, unit, i, subst Q (sym all) p))
 failed_prints words m files profile unit F K failed (SinkFault (Some number)) r lines more i h e p w =
     let P : Status → Type 0 = λ x. Prints words m files x (lines ++ more) in
     let all : lines ++ more ≡ lines = ap (λ (x : List ℕ). lines ++ x) w ∙ append-nil lines in
-    subst P (sym e) (profile, name, p.0, i, p.1, all ∙ p.2)
+    subst P (sym e) (profile, unit, p.0, i, p.1, all ∙ p.2)
 failed_prints words m files profile unit F K failed (NoMemory Unchanged) r lines more i h e p w =
     let P : Status → Type 0 = λ x. Prints words m files x (lines ++ more) in
-    subst P (sym e) (lines, more, ⊎_elim (λ x. inl x) (λ x. inr (profile, name, i, x)) p, w, refl)
+    subst P (sym e) (lines, more, ⊎_elim (λ x. inl x) (λ x. inr (profile, unit, i, x)) p, w, refl)
 failed_prints words m files profile unit F K failed (NoMemory Recover) r lines more i h e p w =
     let P : Status → Type 0 = λ x. Prints words m files x (lines ++ more) in
-    subst P (sym e) (lines, more, inr (profile, name, i, p), w, refl)
+    subst P (sym e) (lines, more, inr (profile, unit, i, p), w, refl)
 failed_prints words m files profile unit F K failed (NoMemory Either) r lines more i h e p w = absurd h
 
 -- ---- what is committed

@@ -33,7 +33,7 @@ use Rattle.director_core.proofs.Steps.{on_told_weaker, on_told_both}
 rose_sooner : (before between now : ℕ) → before ≤ between → Rose between now → Rose before now
 rose_sooner before between now le rose = ⊎_elim (λ lt. inl (omega arith)) (λ last. inr last) rose
 
-abbrev IsCause : Type 0
+abbrev IsCause : Type 1
 IsCause = Status → Type 0
 
 -- A stop of a later call is one of the calls up to it.

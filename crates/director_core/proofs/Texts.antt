@@ -24,6 +24,9 @@ pub grown_by_four : (t t1 t2 t3 t4 a b c d : List ℕ) → t1 ≡ t ++ a → t2 
 grown_by_four t t1 t2 t3 t4 a b c d e f g h =
     h ∙ ap (λ (x : List ℕ). x ++ d) (g ∙ ap (λ (x : List ℕ). x ++ c) (f ∙ ap (λ (x : List ℕ). x ++ b) e)) ∙ simp append_assoc
 
+pub grown_from : (t u x : List ℕ) → t ≡ [] → u ≡ t ++ x → u ≡ x
+grown_from t u x e f = f ∙ ap (λ (y : List ℕ). y ++ x) e
+
 -- the parts of the text of a first state
 pub first_lines : (profile : List ℕ) (unit : Unit)
     → head_text profile 1 ++ (root_line unit.name ++ (unit_text unit ++ line (codes "end") (codes "state" ∷ []))) ≡ first_text profile unit

@@ -4,6 +4,7 @@ pub mod FirstInstall
 pub mod Found
 pub mod Gathering
 pub mod Laid
+pub mod LookUp
 pub mod Planned
 pub mod Printed
 pub mod Source

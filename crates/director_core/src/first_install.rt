@@ -18,9 +18,14 @@ pub(crate) fn first_touches(alloc: Global, plan: Plan) -> Result<List<Touch>, No
     requires { IsReady plan }
     ensures { IfOk result (λ touches. touches ≡ first_touches plan.profile plan.unit) }
 {
-    let profile = plan.profile.as_str();
+    let Plan {
+        profile,
+        unit: _unit,
+        state,
+    } = plan;
+    let profile = profile.as_str();
     let mut touches = directories(alloc, profile)?;
-    touches.push(file(alloc, &["profiles", profile, "1.state"], plan.state)?)?;
+    touches.push(file(alloc, &["profiles", profile, "1.state"], state)?)?;
     let current = List::from_vec(Vec::from_slice(alloc, b"1\n")?);
     touches.push(file(alloc, &["profiles", profile, "current"], current)?)?;
     Ok(List::from_vec(touches))

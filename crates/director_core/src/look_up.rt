@@ -85,7 +85,7 @@ fn is_candidate(id: &Text, unit: &Unit, env: &Env) -> bool
 
 /// Whether the unit is greater than the best one, or the first.
 fn is_above(unit: &Unit, best: Option<&Unit>) -> bool
-    ensures { IsTrue result ↔ IfSome best (λ b. IsAbove unit.now b.now) }
+    ensures { IsTrue result ↔ IfSome best.entry (λ b. IsAbove unit.now b.now) }
 {
     match best {
         Some(best) => unit.name.version.order(&best.name.version) == Ordering::Greater,

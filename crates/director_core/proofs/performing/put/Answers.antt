@@ -1,0 +1,25 @@
+use Rattle.std.proofs.Common.{sym, subst, List}
+use Rattle.folder_core.specs.Step.{OnTold}
+use Rattle.folder_core.proofs.Moments.{formed_now}
+use Rattle.folder_core.specs.declared.node.Touch.{Touch}
+use Rattle.director_core.specs.Laid.{CanLay, AreNodes}
+use Rattle.director_core.proofs.Maps.{can_lay_first, first_nodes, put_leaves, synced_now}
+use Rattle.director_core.proofs.performing.put.Goals as goal
+
+pub lay-requires-clause-can_lay : goal.lay-requires-clause-can_lay
+lay-requires-clause-can_lay g c =
+    let P : List Touch → Type 0 = λ touches. OnTold (g.F.Folder.told c.args.folder.now) (λ s. CanLay touches s.now) in
+    subst P (sym c.in_ok-touches.ensures) (can_lay_first (g.F.Folder.told c.args.folder.now) c.args.plan.profile c.args.plan.unit (formed_now (g.F.Folder.told c.args.folder.now) (g.met.F.Folder.image_now c.args.folder.now)) c.requires.bare)
+
+pub lay-requires-clause-nodes : goal.lay-requires-clause-nodes
+lay-requires-clause-nodes g c =
+    subst AreNodes (sym c.in_ok-touches.ensures) (first_nodes c.args.plan.profile c.args.plan.unit c.requires.ready.fits)
+
+pub returns-in-Ok-sync-clause-leaves : goal.returns-in-Ok-sync-clause-leaves
+returns-in-Ok-sync-clause-leaves g c =
+    put_leaves (g.F.Folder.told c.args.folder.now) (g.F.Folder.told c.lay.new.folder) (g.F.Folder.told c.sync.new.self) c.in_ok-touches.touches c.args.plan.profile c.args.plan.unit
+    c.in_ok-touches.ensures (formed_now (g.F.Folder.told c.args.folder.now) (g.met.F.Folder.image_now c.args.folder.now)) c.requires.bare c.in-Ok.ensures.ok c.in-Ok-sync.ensures.stays
+
+pub returns-in-Ok-sync-clause-synced : goal.returns-in-Ok-sync-clause-synced
+returns-in-Ok-sync-clause-synced g c =
+    synced_now (g.F.Folder.told c.lay.new.folder) (g.F.Folder.told c.sync.new.self) c.in-Ok-sync.ensures.synced c.in-Ok-sync.ensures.stays

@@ -155,14 +155,14 @@ module _ (read : Readings) (folder : List ℕ) (g : Gathered) (bytes : List ℕ)
       ∙ (ap (λ (r : Result (List Unit) Status). r >>= λ more. added g.units more >>= λ units. Ok (record { bytes = total; units = units })) f
       ∙ ap (λ (r : Result (List Unit) Status). r >>= λ units. Ok (record { bytes = total; units = units })) h)
 
+counted_long : (before : ℕ) (bytes : List ℕ) → 1048576 < length bytes → counted before bytes ≡ Err (Limit InfBytes 1048576)
+unfolding counted
+counted_long before bytes long = let test : nat_lt 1048576 (length bytes) ≡ true = grind (arith, nat_tests) in rw test refl
+
 -- a description that is too long
 pub folder_long : (read : Readings) (folder : List ℕ) (g : Gathered) (found : Option (List ℕ)) → IsSomeAnd found (λ bytes. 1048576 < length bytes) → with_found read folder g found ≡ Err (Limit InfBytes 1048576)
 folder_long read folder g None long = absurd long
 folder_long read folder g (Some bytes) long = folder_counted read folder g bytes (Limit InfBytes 1048576) (counted_long g.bytes bytes long)
-  where
-    counted_long : (before : ℕ) (bytes : List ℕ) → 1048576 < length bytes → counted before bytes ≡ Err (Limit InfBytes 1048576)
-    unfolding counted
-    counted_long before bytes long = let test : nat_lt 1048576 (length bytes) ≡ true = grind (arith, nat_tests) in rw test refl
 
 -- ---- all folders
 

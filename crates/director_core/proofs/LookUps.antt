@@ -62,7 +62,7 @@ best_taken id units (Some best) u is candidate above = (
 
 -- one that is no candidate
 pub best_passed : (id : List ℕ) (units : List Unit) (best : Option Unit) (u : Unit) → IsBest id units best → (IsCandidate id u → ⊥) → IsBest id (units ++ u ∷ []) best
-best_passed id units None u none other v has candidate =
+best_passed id units None u none other = λ v has candidate.
     ⊎_elim (λ old. none v old candidate) (λ new. other (subst (IsCandidate id) (sym (only_there u v new)) candidate)) (Contains-append_cases units (u ∷ []) v has)
 best_passed id units (Some best) u is other = (
   Contains-append_left units (u ∷ []) best is.0,

@@ -57,7 +57,7 @@ pub fn run<F: Folder, T: Tree, I: Input, K: Sink>(
 {
     let _ = input;
     match decide(alloc, words, folder, source) {
-        Ok(plan) => match perform(alloc, folder, out, plan) {
+        Ok(plan) => match perform(alloc, folder, out, &plan) {
             Ok(()) => Status::Done,
             Err(status) => refuse(alloc, out, status),
         },

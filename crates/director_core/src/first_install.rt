@@ -7,24 +7,20 @@ ghost use Rattle.director_core.specs.Planned.{IsReady};
 use crate::places::path_of;
 use crate::plan::Plan;
 use folder_core::{Blob, Node, Touch};
-use osgi_version::{List, NoMemory};
+use osgi_version::{List, NoMemory, Twin};
 use std::alloc::Global;
 
 /// What the owner of a file may do, and all others: read, and the owner write.
 const FILE_MODE: u16 = 0o644;
 
 /// The nodes of the first install of one unit, in the order in which they are put.
-pub(crate) fn first_touches(alloc: Global, plan: Plan) -> Result<List<Touch>, NoMemory>
-    requires { IsReady plan }
-    ensures { IfOk result (λ touches. touches ≡ first_touches plan.profile plan.unit) }
+pub(crate) fn first_touches(alloc: Global, plan: &Plan) -> Result<List<Touch>, NoMemory>
+    requires { IsReady plan.now }
+    ensures { IfOk result (λ touches. touches ≡ first_touches plan.now.profile plan.now.unit) }
 {
-    let Plan {
-        profile,
-        unit: _unit,
-        state,
-    } = plan;
-    let profile = profile.as_str();
+    let profile = plan.profile.as_str();
     let mut touches = directories(alloc, profile)?;
+    let state = plan.state.copy()?;
     touches.push(file(alloc, &["profiles", profile, "1.state"], state)?)?;
     let current = List::from_vec(Vec::from_slice(alloc, b"1\n")?);
     touches.push(file(alloc, &["profiles", profile, "current"], current)?)?;

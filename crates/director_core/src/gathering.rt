@@ -13,7 +13,7 @@ use crate::describing::describe;
 use director_words::{LimitName, Status};
 use folder_core::Name;
 use inf_reader::NameSet;
-use osgi_version::List;
+use osgi_version::{List, Twin};
 use std::alloc::Global;
 use unit_model::Unit;
 
@@ -56,23 +56,23 @@ impl Gathering {
     {
         let total = counted(self.bytes, bytes)?;
         let more = describe(alloc, folder, bytes)?;
-        self.add_all(alloc, more)?;
+        self.add_all(alloc, &more)?;
         self.bytes = total;
         Ok(())
     }
 
     /// Adds the units. The first of a name wins.
-    fn add_all(&mut self, alloc: Global, more: List<Unit>) -> Result<(), Status>
+    fn add_all(&mut self, alloc: Global, more: &List<Unit>) -> Result<(), Status>
         requires is { IsGathering self.old }
-        requires form { All IsUnitInForm more }
+        requires form { All IsUnitInForm more.now }
         ensures is { OnOk result (IsGathering self.new) }
         ensures same { OnOk result (self.new.bytes ≡ self.old.bytes) }
-        ensures found { OnOk result (added self.old.units more ≡ Ok self.new.units) }
-        ensures refused { IfErr result (StopsReading (λ s. added self.old.units more ≡ Err s) ⊥) }
+        ensures found { OnOk result (added self.old.units more.now ≡ Ok self.new.units) }
+        ensures refused { IfErr result (StopsReading (λ s. added self.old.units more.now ≡ Err s) ⊥) }
         ensures printable { IfErr result CanPrint }
     {
-        for unit in more.into_vec() {
-            self.add(alloc, unit)?;
+        for unit in more.items() {
+            self.add(alloc, unit.copy()?)?;
         }
         Ok(())
     }

@@ -22,20 +22,20 @@ pub(crate) fn perform<F: Folder, K: Sink>(
     alloc: Global,
     folder: &mut F,
     out: &mut K,
-    plan: Plan,
+    plan: &Plan,
 ) -> Result<(), Status>
-    requires ready { IsReady plan }
+    requires ready { IsReady plan.now }
     requires bare { OnTold (F.told folder.old) (λ s. IsBare s.now) }
     ensures failed { IfErr result (Fails (Rose (F.faults folder.old) (F.faults folder.new)) (Rose (K.faults out.old) (K.faults out.new))) }
     ensures leaves { Step (F.told folder.old) (F.told folder.new)
-        (λ s t. LeavesPerformed plan.profile plan.unit s.now result t.now) }
+        (λ s t. LeavesPerformed plan.now.profile plan.now.unit s.now result t.now) }
     ensures synced { OnPerformed result (OnTold (F.told folder.new) (λ t. t.synced ≡ t.now)) }
     ensures prints { Step (K.told out.old) (K.told out.new)
-        (Adds (PrintsPerformed plan.profile plan.unit result)) }
+        (Adds (PrintsPerformed plan.now.profile plan.now.unit result)) }
     ensures later_folder { F.faults folder.old ≤ F.faults folder.new }
     ensures later_sink { K.faults out.old ≤ K.faults out.new }
 {
-    let lines = plan_lines(alloc, &plan)?;
+    let lines = plan_lines(alloc, plan)?;
     if write_all(out, lines.as_slice()).is_err() {
         return Err(Status::SinkFault { committed: None });
     }
@@ -59,13 +59,13 @@ fn plan_lines(alloc: Global, plan: &Plan) -> Result<Vec<u8>, NoMemory>
 }
 
 /// Puts the nodes of the first install, and makes them last.
-fn put<F: Folder>(alloc: Global, folder: &mut F, plan: Plan) -> Result<(), Status>
-    requires ready { IsReady plan }
+fn put<F: Folder>(alloc: Global, folder: &mut F, plan: &Plan) -> Result<(), Status>
+    requires ready { IsReady plan.now }
     requires bare { OnTold (F.told folder.old) (λ s. IsBare s.now) }
     ensures failed { IfErr result (Fails (Rose (F.faults folder.old) (F.faults folder.new)) ⊥) }
     ensures synced { OnOk result (OnTold (F.told folder.new) (λ t. t.synced ≡ t.now)) }
     ensures leaves { Step (F.told folder.old) (F.told folder.new)
-        (λ s t. LeavesPerformed plan.profile plan.unit s.now result t.now) }
+        (λ s t. LeavesPerformed plan.now.profile plan.now.unit s.now result t.now) }
     ensures later { F.faults folder.old ≤ F.faults folder.new }
 {
     let touches = first_touches(alloc, plan)?;

@@ -12,5 +12,5 @@ invariant-loop-folder g l = record {
   stays : g.T.Tree.told l.source ≡ g.T.Tree.told l.fn.source;
   later : g.T.Tree.faults l.fn.source ≤ g.T.Tree.faults l.source;
   gives : OnTold (g.T.Tree.told l.fn.source) (λ files. (read : Readings) → ReadsAll read
-      → gathered read files nothing_gathered l.folders ≡ gathered read files (gathered_in l.so_far) (drop l.folder-index l.folders));
+      → gathered read files nothing_gathered l.folder-items ≡ gathered read files (gathered_in l.so_far) (drop l.folder-index l.folder-items));
 }

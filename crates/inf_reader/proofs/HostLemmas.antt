@@ -1,9 +1,8 @@
 -- Facts on the host's name.
-use Rattle.std.proofs.Common.{◌≡◌, ℕ, ◌+◌, ◌<◌, ◌≤◌, None, List, [], ◌∷◌, ◌++◌, length, take, drop, get_or, refl, sym, ap, ◌∙◌, arith}
+use Rattle.std.proofs.Common.{◌≡◌, ℕ, ◌+◌, ◌<◌, ◌≤◌, None, List, length, take, drop, refl}
 use Rattle.std.proofs.lemmas.List.{drop_more, drop_all, take_more}
-use Rattle.unit_model.specs.declared.name.UnitName.{UnitName}
 use Rattle.inf_reader.specs.Readings.{Readings}
-use Rattle.inf_reader.specs.Host.{version_at, named_by, host_from, host_of}
+use Rattle.inf_reader.specs.Host.{version_at, named_by, host_from}
 
 -- one byte later
 pub host_from-at : (read : Readings) (folder : List ℕ) (at : ℕ) → at < length folder

@@ -1,6 +1,5 @@
 -- The test of ids and the form of ids.
 use Rattle.std.proofs.Common.{◌≡◌, ◌≢◌, ◌↔◌, ℕ, ◌≤◌, ◌&&◌, nat_le, Bool, true, false, not, IsTrue, List, [], ◌∷◌, length, codes, refl, sym, ap, ◌∙◌, arith}
-use Rattle.std.specs.List.{list_all}
 use Rattle.std.specs.Str.{bytes_eq}
 use Rattle.std.proofs.lemmas.Bool.{false≢true}
 use Rattle.std.proofs.lemmas.Bool.Decides.{nat_tests}

@@ -1,12 +1,11 @@
 -- Facts on the variables in values.
-use Rattle.std.proofs.Common.{◌≡◌, ◌≢◌, ℕ, zero, suc, ◌+◌, ◌<◌, nat_eq, ◌==◌, Bool, true, false, not, cond, List, [], ◌∷◌, ◌++◌, length, take, drop, Option, Some, None, option_map, option_and_then, codes, refl, sym, ap, ◌∙◌, append_assoc, take-append-drop, take_all, append-nil, le_refl, get_or, arith}
+use Rattle.std.proofs.Common.{◌≡◌, ℕ, suc, ◌+◌, ◌<◌, nat_eq, ◌==◌, Bool, true, false, not, cond, List, [], ◌∷◌, ◌++◌, length, take, drop, Option, Some, None, option_and_then, codes, refl, sym, ap, ◌∙◌, append_assoc, take-append-drop, take_all, append-nil, le_refl, get_or, arith}
 use Rattle.std.proofs.lemmas.List.{drop_more, drop_all}
 use Rattle.std.specs.List.{starts_with, before_first, after_first, position_or_len}
 use Rattle.std.specs.Str.{bytes_eq}
 use Rattle.std.proofs.lemmas.Bool.Decides.{nat_tests}
 use Rattle.std.proofs.lemmas.List.Sums.{passes_at_first}
 use Rattle.std.proofs.lemmas.Slice.Eq.{bytes_eq-Decides}
-use Rattle.osgi_version.specs.VersionText.{version_text}
 use Rattle.unit_model.specs.declared.name.UnitName.{UnitName}
 use Rattle.inf_reader.specs.declared.replaced.Variable.{Variable}
 use Rattle.inf_reader.specs.declared.replaced.Variable.TheVariants.{Version, Qualifier}

@@ -1,5 +1,5 @@
 -- Each text denotes one version, or none.
-use Rattle.std.proofs.Common.{◌≡◌, ◌≢◌, ℕ, zero, suc, ◌+◌, ◌<◌, Bool, true, false, Option, Some, None, option_and_then, List, [], ◌∷◌, ◌++◌, length, get_or, take, if◌then◌else◌, refl, ap, sym, ◌∙◌, arith}
+use Rattle.std.proofs.Common.{◌≡◌, ℕ, suc, ◌<◌, Bool, true, false, Option, Some, None, option_and_then, List, [], ◌∷◌, length, get_or, take, refl, ap, sym, ◌∙◌, arith}
 use Rattle.osgi_version.specs.VersionText.{DenotesVersion, IsVersionText}
 use Rattle.osgi_version.specs.VersionSteps.{Progress, beginning, step, is_whole}
 use Rattle.osgi_version.specs.declared.version.Version.{Version}

@@ -1,5 +1,5 @@
 -- The variables in values.
-use Rattle.std.specs.Prelude.{ℕ, zero, suc, nat_eq, Bool, List, [], ◌∷◌, ◌++◌, Option, Some, None, option_map, option_and_then, codes, if◌then◌else◌}
+use Rattle.std.specs.Prelude.{ℕ, zero, suc, nat_eq, List, [], ◌∷◌, ◌++◌, Option, Some, option_map, option_and_then, codes, if◌then◌else◌}
 use Rattle.std.specs.List.{starts_with}
 use Rattle.osgi_version.specs.VersionText.{version_text}
 use Rattle.unit_model.specs.declared.name.UnitName.{UnitName}

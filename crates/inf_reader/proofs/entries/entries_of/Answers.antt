@@ -1,4 +1,4 @@
-use Rattle.std.proofs.Common.{◌≡◌, ◌+◌, ◌<◌, ◌≤◌, ◌++◌, ◌∷◌, [], List, ℕ, Option, Some, None, Ok, Vec, Global, length, drop, option_map, sym, ap, ◌∙◌, append-nil, arith}
+use Rattle.std.proofs.Common.{◌+◌, ◌<◌, ◌≤◌, Option, None, Ok, Vec, Global, length, drop, option_map, sym, ap, ◌∙◌, append-nil, arith}
 use Rattle.std.proofs.lemmas.Result.{err_from_is_err_and}
 use Rattle.unit_model.specs.declared.name.UnitName.{UnitName}
 use Rattle.inf_reader.specs.declared.entries.Entry.{Entry}

@@ -1,6 +1,5 @@
-use Rattle.std.proofs.Common.{◌≡◌, ◌++◌, ◌∷◌, [], List, ℕ, Option, Some, None, option_map, string_bytes, lit<, sym, ap, ◌∙◌, refl, rules}
+use Rattle.std.proofs.Common.{◌++◌, ◌∷◌, [], Option, Some, option_map, string_bytes, lit<, ap, ◌∙◌, rules}
 use Rattle.unit_model.specs.declared.name.UnitName.{UnitName}
-use Rattle.inf_reader.specs.Variable.{value_text}
 use Rattle.inf_reader.specs.Replaced.{with_front, replaced}
 use Rattle.inf_reader.proofs.ReplacedLemmas.{cut_at, none_at, variable_at, dollar_at_front, done}
 use Rattle.inf_reader.proofs.replaced.replaced.Goals as goal

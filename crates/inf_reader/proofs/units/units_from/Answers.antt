@@ -1,7 +1,6 @@
-use Rattle.std.proofs.Common.{◌≡◌, Bool, true, false, not, refl, ◌+◌, ◌∷◌, [], ℕ, List, Option, option_map, drop, sym, ap, ◌∙◌}
+use Rattle.std.proofs.Common.{◌≡◌, Bool, true, false, not, refl, ◌+◌, [], Option, option_map, drop, sym, ap, ◌∙◌}
 use Rattle.std.proofs.lemmas.Result.{err_from_is_err_and}
 use Rattle.unit_model.specs.declared.name.UnitName.{UnitName}
-use Rattle.unit_model.specs.declared.unit.Unit.{Unit}
 use Rattle.inf_reader.specs.TableAt.{at}
 use Rattle.inf_reader.specs.UnitsOf.{has_name, units_from}
 use Rattle.inf_reader.proofs.NameLemmas.{HasNames-more}

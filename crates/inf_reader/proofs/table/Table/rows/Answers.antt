@@ -1,5 +1,4 @@
 use Rattle.std.proofs.Common.{◌∙◌}
-use Rattle.inf_reader.specs.Meaning.{list_code}
 use Rattle.inf_reader.proofs.PlaceLemmas.{first_before, rows_in-between}
 use Rattle.inf_reader.proofs.table.Table.rows.Goals as goal
 

@@ -67,7 +67,7 @@ unfolding described
 described_key read folder bytes pairs refusal first second =
     ap (λ r. on_line folder r >>= λ ps. on_key folder (units_of read folder ps)) first ∙ ap (on_key folder) second
 
-abbrev Describes : List ℕ → List ℕ → Result (List Unit) Status → Type 0
+abbrev pub Describes : List ℕ → List ℕ → Result (List Unit) Status → Type 0
 Describes folder bytes r = (read : Readings) → ReadsAll read → described read folder bytes ≡ r
 
 module _ (folder bytes : List ℕ) (pairs : List Pair) (first : pairs_of bytes ≡ Ok pairs) where
@@ -78,13 +78,13 @@ module _ (folder bytes : List ℕ) (pairs : List Pair) (first : pairs_of bytes �
   Stopped refusal = StopsReading (λ s. Describes folder bytes (Err s)) ⊥ (refusal_status folder refusal)
 
   pub refusal_stops : (refusal : InfRefusal) → Refused refusal → Stopped refusal
-  refusal_stops (refusals.UnknownKey key) h read reads = described_key read folder bytes pairs _ first (h read reads)
-  refusal_stops (refusals.LeftOutKey key) h read reads = described_key read folder bytes pairs _ first (h read reads)
-  refusal_stops (refusals.NoHost key) h read reads = described_key read folder bytes pairs _ first (h read reads)
-  refusal_stops (refusals.MissingId number) h read reads = described_key read folder bytes pairs _ first (h read reads)
-  refusal_stops (refusals.BadValue key) h read reads = described_key read folder bytes pairs _ first (h read reads)
-  refusal_stops (refusals.Duplicate name) h read reads = described_key read folder bytes pairs _ first (h read reads)
-  refusal_stops (refusals.TooManyRequirements name) h read reads = described_key read folder bytes pairs _ first (h read reads)
+  refusal_stops (refusals.UnknownKey key) h = λ read reads. described_key read folder bytes pairs _ first (h read reads)
+  refusal_stops (refusals.LeftOutKey key) h = λ read reads. described_key read folder bytes pairs _ first (h read reads)
+  refusal_stops (refusals.NoHost key) h = λ read reads. described_key read folder bytes pairs _ first (h read reads)
+  refusal_stops (refusals.MissingId number) h = λ read reads. described_key read folder bytes pairs _ first (h read reads)
+  refusal_stops (refusals.BadValue key) h = λ read reads. described_key read folder bytes pairs _ first (h read reads)
+  refusal_stops (refusals.Duplicate name) h = λ read reads. described_key read folder bytes pairs _ first (h read reads)
+  refusal_stops (refusals.TooManyRequirements name) h = λ read reads. described_key read folder bytes pairs _ first (h read reads)
   refusal_stops refusals.NoMemory h = tt
 
 pub refusal_printable : (folder : List ℕ) (refusal : InfRefusal) → IsRefusalInForm refusal → CanPrint (refusal_status folder refusal)

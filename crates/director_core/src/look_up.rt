@@ -1,6 +1,6 @@
 //! The unit that a word names.
 
-ghost use Rattle.std.specs.Prelude.{◌≡◌, [], Some, Contains, true, false, IfOk, IfErr, IfSome, IfNone, IsSomeAnd, IsTrue, ◌↔◌, All};
+ghost use Rattle.std.specs.Prelude.{◌≡◌, ◌++◌, ◌∷◌, [], List as Items, Some, Contains, true, false, IfOk, IfErr, IfSome, IfNone, IsSomeAnd, IsTrue, ◌↔◌, All};
 ghost use Rattle.std.specs.Option.{option_map};
 ghost use Rattle.unit_model.specs.declared.unit.Unit.{Unit};
 ghost use Rattle.inf_reader.specs.InForm.{IsUnitInForm};
@@ -69,11 +69,30 @@ fn greatest<'a>(id: &Text, units: &'a [Unit], env: &Env) -> Option<&'a Unit>
 {
     let mut best: Option<&Unit> = None;
     for unit in units {
-        if is_candidate(id, unit, env) && is_above(unit, best) {
-            best = Some(unit);
-        }
+        best = better(id, unit, env, best);
     }
     best
+}
+
+/// The unit, where it is a candidate above the best one so far, or else that.
+fn better<'a>(
+    id: &Text,
+    unit: &'a Unit,
+    env: &Env,
+    best: Option<&'a Unit>,
+) -> Option<&'a Unit>
+    requires { env.now ≡ [] }
+    ensures { (units : Items Unit) → IsBest id.now units (option_map (λ u. u.now) best.entry)
+        → IsBest id.now (units ++ unit.now ∷ []) (option_map (λ u. u.now) result) }
+{
+    if !is_candidate(id, unit, env) {
+        return best;
+    }
+    if is_above(unit, best) {
+        Some(unit)
+    } else {
+        best
+    }
 }
 
 fn is_candidate(id: &Text, unit: &Unit, env: &Env) -> bool

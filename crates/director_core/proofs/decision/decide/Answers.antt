@@ -1,7 +1,10 @@
-use Rattle.std.proofs.Common.{[], ◌∷◌, subst, sym}
+use Rattle.std.proofs.Common.{Err}
 use Rattle.std.proofs.lemmas.Result.{err_from_is_err_and}
 use Rattle.director_words.specs.declared.status.Status.{Status}
+use Rattle.folder_core.specs.Cause.{Rose}
+use Rattle.folder_core.specs.Step.{OnTold}
 use Rattle.director_core.specs.Answer.{IsAsked}
+use Rattle.director_core.specs.Source.{SourceGives}
 use Rattle.director_core.proofs.Decisions.{still_bare, stops_weaker, reading_stops, folder_answer, source_answer, named_answer, planned_answer, chosen, installed}
 use Rattle.director_core.proofs.decision.decide.Goals as goal
 
@@ -9,7 +12,7 @@ pub returns-in_err-check_bare-clause-refused : goal.returns-in_err-check_bare-cl
 returns-in_err-check_bare-clause-refused g c =
     let p = err_from_is_err_and c.from_residual-in_err-check_bare.result c.from_residual-in_err-check_bare.ensures.1 in
     let asked : IsAsked c.args.words.now = (c.in_ok-asked.asked.profile, c.in_ok-asked.asked.word, c.in_ok-asked.ensures.found) in
-    rw (p.1, p.2) (stops_weaker _ _ _ _ _ _ _ _ (λ x. absurd x) (λ rose. (asked, rose)) (λ x. absurd x) (λ s x. asked) c.in_err-check_bare.field-0.0 c.in_err-check_bare.ensures.refused)
+    rw (p.1, p.2) (stops_weaker _ _ _ _ _ _ _ (λ (s : Status). IsAsked c.args.words.now) (λ x. absurd x) (λ rose. (asked, rose)) (λ x. absurd x) (λ s x. asked) c.in_err-check_bare.field-0.0 c.in_err-check_bare.ensures.refused)
 
 pub returns-in_err-check_bare-clause-answer : goal.returns-in_err-check_bare-clause-answer
 returns-in_err-check_bare-clause-answer g c =
@@ -21,7 +24,7 @@ pub returns-in_err-units-clause-refused : goal.returns-in_err-units-clause-refus
 returns-in_err-units-clause-refused g c =
     let p = err_from_is_err_and c.from_residual-in_err-units.result c.from_residual-in_err-units.ensures.1 in
     let asked : IsAsked c.args.words.now = (c.in_ok-asked.asked.profile, c.in_ok-asked.asked.word, c.in_ok-asked.ensures.found) in
-    rw (p.1, p.2) (stops_weaker _ _ _ _ _ _ _ _ (λ x. absurd x) (λ x. absurd x) (λ rose. (asked, rose)) (λ s x. asked) c.in_err-units.field-0.0 (reading_stops _ _ c.in_err-units.field-0.0 c.in_err-units.ensures.refused))
+    rw (p.1, p.2) (stops_weaker _ _ _ _ _ _ _ (λ (s : Status). IsAsked c.args.words.now) (λ x. absurd x) (λ x. absurd x) (λ rose. (asked, rose)) (λ s x. asked) c.in_err-units.field-0.0 (reading_stops (λ (x : Status). OnTold (g.T.Tree.told c.args.source.now) (λ files. SourceGives files (Err x))) (Rose (g.T.Tree.faults c.args.source.now) (g.T.Tree.faults c.read_source.new.source)) c.in_err-units.field-0.0 c.in_err-units.ensures.refused))
 
 pub returns-in_err-units-clause-answer : goal.returns-in_err-units-clause-answer
 returns-in_err-units-clause-answer g c =
@@ -33,7 +36,7 @@ pub returns-in_err-unit-clause-refused : goal.returns-in_err-unit-clause-refused
 returns-in_err-unit-clause-refused g c =
     let p = err_from_is_err_and c.from_residual-in_err-unit.result c.from_residual-in_err-unit.ensures.1 in
     let asked : IsAsked c.args.words.now = (c.in_ok-asked.asked.profile, c.in_ok-asked.asked.word, c.in_ok-asked.ensures.found) in
-    rw (p.1, p.2) (stops_weaker _ _ _ _ _ _ _ _ (λ x. absurd x) (λ x. absurd x) (λ x. absurd x) (λ s x. asked) c.in_err-unit.field-0.0 c.in_err-unit.ensures.refused)
+    rw (p.1, p.2) (stops_weaker _ _ _ _ _ _ _ (λ (s : Status). IsAsked c.args.words.now) (λ x. absurd x) (λ x. absurd x) (λ x. absurd x) (λ s x. asked) c.in_err-unit.field-0.0 c.in_err-unit.ensures.refused)
 
 pub returns-in_err-unit-clause-answer : goal.returns-in_err-unit-clause-answer
 returns-in_err-unit-clause-answer g c =
@@ -44,7 +47,7 @@ pub returns-in_err-plan-clause-refused : goal.returns-in_err-plan-clause-refused
 returns-in_err-plan-clause-refused g c =
     let p = err_from_is_err_and c.from_residual-in_err-plan.result c.from_residual-in_err-plan.ensures.1 in
     let asked : IsAsked c.args.words.now = (c.in_ok-asked.asked.profile, c.in_ok-asked.asked.word, c.in_ok-asked.ensures.found) in
-    rw (p.1, p.2) (stops_weaker _ _ _ _ _ _ _ _ (λ x. absurd x) (λ x. absurd x) (λ x. absurd x) (λ s x. asked) c.in_err-plan.field-0.0 c.in_err-plan.ensures.refused)
+    rw (p.1, p.2) (stops_weaker _ _ _ _ _ _ _ (λ (s : Status). IsAsked c.args.words.now) (λ x. absurd x) (λ x. absurd x) (λ x. absurd x) (λ s x. asked) c.in_err-plan.field-0.0 c.in_err-plan.ensures.refused)
 
 pub returns-in_err-plan-clause-answer : goal.returns-in_err-plan-clause-answer
 returns-in_err-plan-clause-answer g c =

@@ -1,12 +1,12 @@
 pub mod Commands
 pub mod Decisions
 pub mod Endings
-pub mod Gives
-pub mod Keys
-pub mod Lengths
+pub mod Distinct
+pub mod Folders
+pub mod Gatherings
+pub mod LookUps
 pub mod Maps
 pub mod Names
 pub mod Roots
-pub mod Sources
 pub mod Steps
 pub mod Texts

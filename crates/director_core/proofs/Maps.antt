@@ -1,5 +1,5 @@
 -- The nodes of the first install, put into an empty folder.
-use Rattle.std.proofs.Common.{◌≡◌, ℕ, zero, suc, ◌-◌, true, List, [], ◌∷◌, length, take, Option, Some, None, nat_eq, refl, sym, ap, ◌∙◌, subst, lit≤, arith, eq-eqb}
+use Rattle.std.proofs.Common.{◌≡◌, ℕ, zero, suc, ◌-◌, ◌≤◌, true, List, [], ◌∷◌, length, take, Option, Some, None, nat_eq, refl, sym, ap, ◌∙◌, subst, lit≤, arith, eq-eqb}
 use mathlib.Core.Path.{fun_ext}
 use Rattle.std.specs.Cmp.Lexicographic.{pointwise}
 use Rattle.std.proofs.lemmas.List.{length-take-le}
@@ -9,12 +9,10 @@ use Rattle.folder_core.specs.Step.{OnTold, Step}
 use Rattle.folder_core.specs.declared.node.Touch.{Touch}
 use Rattle.folder_core.specs.declared.node.Node.{Node}
 use Rattle.folder_core.specs.declared.node.Node.TheVariants.{Dir}
-use Rattle.unit_model.specs.Profile.{IsProfile}
-use Rattle.unit_model.specs.declared.name.UnitName.{UnitName}
-use Rattle.director_core.specs.Description.{IsUnitName}
+use Rattle.unit_model.specs.declared.unit.Unit.{Unit}
+use Rattle.director_core.specs.Answer.{first_text}
 use Rattle.director_core.specs.FirstInstall.{first_touches}
 use Rattle.director_core.specs.Laid.{bare, IsBare, laid, CanLay, AreNodes}
-use Rattle.director_core.proofs.Lengths.{state_small}
 
 none_or_some : (o : Option Node) → ((x : Node) → o ≡ Some x → ⊥) → o ≡ None
 none_or_some None h = refl
@@ -52,8 +50,8 @@ bytes_same [] = refl
 bytes_same (b ∷ bytes) = rw (eq-eqb b b refl) (bytes_same bytes)
 
 -- each directory and file of the first install may be put when its turn comes
-pub can_lay_bare : (profile : List ℕ) (name : UnitName) → CanLay (first_touches profile name) bare
-can_lay_bare profile name = (
+pub can_lay_bare : (profile : List ℕ) (unit : Unit) → CanLay (first_touches profile unit) bare
+can_lay_bare profile unit = (
   record { not_root = λ e. cc; parent = refl; nothing_below = λ n r. refl },
   (
     record { not_root = λ e. cc; parent = refl; nothing_below = λ n r. refl },
@@ -76,8 +74,8 @@ can_lay_bare profile name = (
   ),
 )
 
-pub first_nodes : (profile : List ℕ) (name : UnitName) → IsProfile profile → IsUnitName name → AreNodes (first_touches profile name)
-first_nodes profile name is_profile is_name = (
+pub first_nodes : (profile : List ℕ) (unit : Unit) → length (first_text profile unit) ≤ 67108864 → AreNodes (first_touches profile unit)
+first_nodes profile unit fits = (
   (tt, tt),
   (
     (tt, tt),
@@ -88,7 +86,7 @@ first_nodes profile name is_profile is_name = (
         (
           (tt, tt),
           (
-            (lit≤ tt, λ outside. state_small profile name is_profile is_name),
+            (lit≤ tt, λ outside. fits),
             (
               (lit≤ tt, λ outside. lit≤ tt),
               tt,
@@ -100,27 +98,27 @@ first_nodes profile name is_profile is_name = (
   ),
 )
 
-pub can_lay_first : (a : Option Told) (profile : List ℕ) (name : UnitName) → OnTold a (λ s. IsFormed s.now) → OnTold a (λ s. IsBare s.now) → OnTold a (λ s. CanLay (first_touches profile name) s.now)
-can_lay_first None profile name formed is_bare = tt
-can_lay_first (Some s) profile name formed is_bare =
-    let P : Map → Type 0 = CanLay (first_touches profile name) in
-    subst P (sym (map_bare s.now formed is_bare)) (can_lay_bare profile name)
+pub can_lay_first : (a : Option Told) (profile : List ℕ) (unit : Unit) → OnTold a (λ s. IsFormed s.now) → OnTold a (λ s. IsBare s.now) → OnTold a (λ s. CanLay (first_touches profile unit) s.now)
+can_lay_first None profile unit formed is_bare = tt
+can_lay_first (Some s) profile unit formed is_bare =
+    let P : Map → Type 0 = CanLay (first_touches profile unit) in
+    subst P (sym (map_bare s.now formed is_bare)) (can_lay_bare profile unit)
 
-pub laid_first : (m : Map) (profile : List ℕ) (name : UnitName) → IsFormed m → IsBare m → laid (first_touches profile name) m ≡ laid (first_touches profile name) bare
-laid_first m profile name formed is_bare = ap (λ (x : Map). laid (first_touches profile name) x) (map_bare m formed is_bare)
+pub laid_first : (m : Map) (profile : List ℕ) (unit : Unit) → IsFormed m → IsBare m → laid (first_touches profile unit) m ≡ laid (first_touches profile unit) bare
+laid_first m profile unit formed is_bare = ap (λ (x : Map). laid (first_touches profile unit) x) (map_bare m formed is_bare)
 
-pub put_leaves : (a b d : Option Told) (touches : List Touch) (profile : List ℕ) (name : UnitName) → touches ≡ first_touches profile name
+pub put_leaves : (a b d : Option Told) (touches : List Touch) (profile : List ℕ) (unit : Unit) → touches ≡ first_touches profile unit
     → OnTold a (λ s. IsFormed s.now) → OnTold a (λ s. IsBare s.now)
     → Step a b (λ s t. t.now ≡ laid touches s.now)
     → Step b d (λ s t. t.now ≡ s.now)
-    → Step a d (λ s t. t.now ≡ laid (first_touches profile name) bare)
-put_leaves None None None touches profile name e formed is_bare p q = tt
-put_leaves None None (Some u) touches profile name e formed is_bare p q = absurd q
-put_leaves None (Some t) d touches profile name e formed is_bare p q = absurd p
-put_leaves (Some s) None d touches profile name e formed is_bare p q = absurd p
-put_leaves (Some s) (Some t) None touches profile name e formed is_bare p q = absurd q
-put_leaves (Some s) (Some t) (Some u) touches profile name e formed is_bare p q =
-    q ∙ (p ∙ (ap (λ (ts : List Touch). laid ts s.now) e ∙ laid_first s.now profile name formed is_bare))
+    → Step a d (λ s t. t.now ≡ laid (first_touches profile unit) bare)
+put_leaves None None None touches profile unit e formed is_bare p q = tt
+put_leaves None None (Some u) touches profile unit e formed is_bare p q = absurd q
+put_leaves None (Some t) d touches profile unit e formed is_bare p q = absurd p
+put_leaves (Some s) None d touches profile unit e formed is_bare p q = absurd p
+put_leaves (Some s) (Some t) None touches profile unit e formed is_bare p q = absurd q
+put_leaves (Some s) (Some t) (Some u) touches profile unit e formed is_bare p q =
+    q ∙ (p ∙ (ap (λ (ts : List Touch). laid ts s.now) e ∙ laid_first s.now profile unit formed is_bare))
 
 -- what a sync leaves
 pub synced_now : (a b : Option Told) → Step a b (λ s t. t.synced ≡ s.now) → Step a b (λ s t. t.now ≡ s.now) → OnTold b (λ t. t.synced ≡ t.now)

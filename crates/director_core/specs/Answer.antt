@@ -1,21 +1,24 @@
 -- Which answer an install has, and what it leaves: by the words, the folder and the source, in the order in which
 -- they are read.
-use Rattle.std.specs.Prelude.{◌≡◌, ℕ, List, [], ◌∷◌, Option, Some, None, IsSome, ⊤, ◌⊎◌}
+use Rattle.std.specs.Prelude.{◌≡◌, ℕ, ◌<◌, ◌≤◌, length, List, [], ◌∷◌, Some, None, IsSome, Ok, Err, ⊤, ◌⊎◌}
 use Rattle.folder_core.specs.Folder.{Map}
 use Rattle.folder_core.specs.Tree.{Files}
 use Rattle.folder_core.specs.declared.node.After.TheVariants.{Unchanged, Recover, Either}
-use Rattle.unit_model.specs.declared.name.UnitName.{UnitName}
+use Rattle.unit_model.specs.declared.unit.Unit.{Unit}
 use Rattle.director_words.specs.Request.{Asks}
 use Rattle.director_words.specs.declared.request.Request.TheVariants.{Install}
 use Rattle.director_words.specs.declared.status.Status.{Status}
-use Rattle.director_words.specs.declared.status.Status.TheVariants.{Done, NotBuilt, Usage, Unknown, FolderFault, SourceFault, SinkFault, NoMemory}
-use Rattle.director_core.specs.FirstInstall.{first_touches}
+use Rattle.director_words.specs.declared.status.Status.TheVariants.{Done, NotBuilt, Usage, SourceRefused, Unknown, FolderFault, SourceFault, SinkFault, Limit, NoMemory}
+use Rattle.director_words.specs.declared.limit.LimitName.TheVariants.{FileBytes}
+use Rattle.director_core.specs.Built.{IsBuilt}
+use Rattle.director_core.specs.FirstInstall.{first_state, first_touches}
+use Rattle.director_core.specs.Found.{Finds, FindsNone}
 use Rattle.director_core.specs.Laid.{IsBare, bare, laid}
-use Rattle.director_core.specs.Named.{Names, NamesNone}
-use Rattle.director_core.specs.Source.{IsBeyond, Gives}
+use Rattle.director_core.specs.Source.{SourceGives}
+use Rattle.director_core.specs.StateText.{state_text}
 
--- The words ask to install one root, named by this word, into the profile. No search is needed for one plain unit, so the
--- budget is of no matter.
+-- The words ask to install one root, named by this word, into the profile. No search is needed for a unit that
+-- requires nothing, so the budget is of no matter.
 pub record AsksFor (words : List (List ℕ)) (profile word : List ℕ) : Type 0 where
   pub budget : ℕ
   pub asks : Asks words (Install profile budget (word ∷ []))
@@ -27,31 +30,58 @@ IsAsked words = (profile word : List ℕ) × AsksFor words profile word
 abbrev pub HasChild : Map → Type 0
 HasChild m = (name : List ℕ) × IsSome (m (name ∷ []))
 
--- The unit of this name is to be installed into the profile.
-pub record Installs (words : List (List ℕ)) (m : Map) (files : Files) (profile : List ℕ) (name : UnitName) : Type 0 where
+-- The word names this unit of the source, and the folder is empty.
+pub record Chooses (words : List (List ℕ)) (m : Map) (files : Files) (profile : List ℕ) (unit : Unit) : Type 0 where
   pub word : List ℕ
   pub asks : AsksFor words profile word
   pub is_bare : IsBare m
-  pub gives : Gives files (Some name)
-  pub names : Names word name
+  pub units : List Unit
+  pub gives : SourceGives files (Ok units)
+  pub finds : Finds word units unit
+
+-- the text of the first state
+abbrev pub first_text : List ℕ → Unit → List ℕ
+first_text profile unit = state_text (first_state profile unit)
+
+-- The unit is to be installed into the profile.
+pub record Installs (words : List (List ℕ)) (m : Map) (files : Files) (profile : List ℕ) (unit : Unit) : Type 0 where
+  pub chooses : Chooses words m files profile unit
+  pub is_built : IsBuilt unit
+  pub fits : length (first_text profile unit) ≤ 67108864
 
 abbrev pub CanInstall : List (List ℕ) → Map → Files → Type 0
-CanInstall words m files = (profile : List ℕ) × (name : UnitName) × Installs words m files profile name
+CanInstall words m files = (profile : List ℕ) × (unit : Unit) × Installs words m files profile unit
 
--- The request wants more than is built: a folder that isn't empty, or a source of more than one plain description.
+-- The unit that the word names has a part that isn't built.
+abbrev pub WantsPart : List (List ℕ) → Map → Files → Type 0
+WantsPart words m files = (profile : List ℕ) × (unit : Unit) × Chooses words m files profile unit × ¬ (IsBuilt unit)
+
+-- The request wants more than is built: a folder that isn't empty, or such a unit.
 abbrev pub WantsMore : List (List ℕ) → Map → Files → Type 0
-WantsMore words m files = IsAsked words × (HasChild m ⊎ (IsBare m × IsBeyond files))
+WantsMore words m files = IsAsked words × (HasChild m ⊎ WantsPart words m files)
+
+-- The source is refused so, or passes a limit.
+abbrev pub IsRefused : List (List ℕ) → Map → Files → Status → Type 0
+IsRefused words m files status = IsAsked words × IsBare m × SourceGives files (Err status)
+
+-- The text of the first state is longer than a file may be.
+abbrev pub IsTooLong : List (List ℕ) → Map → Files → Type 0
+IsTooLong words m files =
+    (profile : List ℕ) × (unit : Unit) × Chooses words m files profile unit × IsBuilt unit
+    × (67108864 < length (first_text profile unit))
 
 -- The word names no unit of the source.
 abbrev pub NamesUnknown : List (List ℕ) → Map → Files → List ℕ → Type 0
 NamesUnknown words m files word =
-    (profile : List ℕ) × (unit : Option UnitName) × AsksFor words profile word × IsBare m × Gives files unit × NamesNone word unit
+    (profile : List ℕ) × (units : List Unit) × AsksFor words profile word × IsBare m × SourceGives files (Ok units)
+    × FindsNone word units
 
 -- Why this answer comes. A fault and want of memory have their causes elsewhere; they say how far the command was.
 abbrev pub IsAnswer : List (List ℕ) → Map → Files → Status → Type 0
 IsAnswer words m files Done = CanInstall words m files
 IsAnswer words m files NotBuilt = WantsMore words m files
 IsAnswer words m files Usage = ¬ (IsAsked words)
+IsAnswer words m files (SourceRefused folder why) = IsRefused words m files (SourceRefused folder why)
 IsAnswer words m files (Unknown word) = NamesUnknown words m files word
 IsAnswer words m files (FolderFault Unchanged) = IsAsked words
 IsAnswer words m files (FolderFault Recover) = CanInstall words m files
@@ -59,6 +89,8 @@ IsAnswer words m files (FolderFault Either) = ⊥
 IsAnswer words m files SourceFault = IsAsked words × IsBare m
 IsAnswer words m files (SinkFault None) = ⊤
 IsAnswer words m files (SinkFault (Some number)) = (number ≡ 1) × CanInstall words m files
+IsAnswer words m files (Limit what most) =
+    IsRefused words m files (Limit what most) ⊎ ((what ≡ FileBytes) × (most ≡ 67108864) × IsTooLong words m files)
 IsAnswer words m files (NoMemory Unchanged) = ⊤
 IsAnswer words m files (NoMemory Recover) = CanInstall words m files
 IsAnswer words m files (NoMemory Either) = ⊥
@@ -68,7 +100,9 @@ abbrev pub IsPlainAnswer : Status → Type 0
 IsPlainAnswer Done = ⊤
 IsPlainAnswer NotBuilt = ⊤
 IsPlainAnswer Usage = ⊤
+IsPlainAnswer (SourceRefused folder why) = ⊤
 IsPlainAnswer (Unknown word) = ⊤
+IsPlainAnswer (Limit what most) = ⊤
 IsPlainAnswer (FolderFault after) = ⊥
 IsPlainAnswer SourceFault = ⊥
 IsPlainAnswer (SinkFault committed) = ⊥
@@ -85,7 +119,7 @@ IsUsageOrFault status = (status ≡ Usage) ⊎ (status ≡ SinkFault None) ⊎ (
 -- The folder holds the first install, and nothing else.
 abbrev pub HasInstalled : List (List ℕ) → Map → Files → Map → Type 0
 HasInstalled words old files new =
-    (profile : List ℕ) × (name : UnitName) × Installs words old files profile name × (new ≡ laid (first_touches profile name) bare)
+    (profile : List ℕ) × (unit : Unit) × Installs words old files profile unit × (new ≡ laid (first_touches profile unit) bare)
 
 -- what the folder holds then
 abbrev pub Leaves : List (List ℕ) → Map → Files → Status → Map → Type 0
@@ -100,6 +134,8 @@ Leaves words old files (NoMemory Unchanged) new = new ≡ old
 Leaves words old files (NoMemory Either) new = ⊥
 Leaves words old files NotBuilt new = new ≡ old
 Leaves words old files Usage new = new ≡ old
+Leaves words old files (SourceRefused folder why) new = new ≡ old
 Leaves words old files (Unknown word) new = new ≡ old
+Leaves words old files (Limit what most) new = new ≡ old
 Leaves words old files SourceFault new = new ≡ old
 Leaves words old files (SinkFault None) new = new ≡ old

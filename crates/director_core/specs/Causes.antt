@@ -1,7 +1,7 @@
 use Rattle.std.specs.Prelude.{◌≡◌, Some, None, ⊤}
 use Rattle.folder_core.specs.declared.node.After.TheVariants.{Unchanged, Recover, Either}
 use Rattle.director_words.specs.declared.status.Status.{Status}
-use Rattle.director_words.specs.declared.status.Status.TheVariants.{Done, NotBuilt, Usage, Unknown, FolderFault, SourceFault, SinkFault, NoMemory}
+use Rattle.director_words.specs.declared.status.Status.TheVariants.{Done, NotBuilt, Usage, SourceRefused, Unknown, FolderFault, SourceFault, SinkFault, Limit, NoMemory}
 
 -- A fault comes only where that object failed. The one state that can be committed is the first, and what a failure
 -- left is never in doubt.
@@ -9,7 +9,9 @@ abbrev pub HasCauses : (FolderFailed SourceFailed SinkFailed : Type 0) → Statu
 HasCauses FolderFailed SourceFailed SinkFailed Done = ⊤
 HasCauses FolderFailed SourceFailed SinkFailed NotBuilt = ⊤
 HasCauses FolderFailed SourceFailed SinkFailed Usage = ⊤
+HasCauses FolderFailed SourceFailed SinkFailed (SourceRefused folder why) = ⊤
 HasCauses FolderFailed SourceFailed SinkFailed (Unknown word) = ⊤
+HasCauses FolderFailed SourceFailed SinkFailed (Limit what most) = ⊤
 HasCauses FolderFailed SourceFailed SinkFailed (FolderFault Unchanged) = FolderFailed
 HasCauses FolderFailed SourceFailed SinkFailed (FolderFault Recover) = FolderFailed
 HasCauses FolderFailed SourceFailed SinkFailed (FolderFault Either) = ⊥

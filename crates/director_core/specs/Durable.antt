@@ -1,6 +1,6 @@
 use Rattle.std.specs.Prelude.{Some, None, Result, Ok, Err, ⊤}
 use Rattle.director_words.specs.declared.status.Status.{Status}
-use Rattle.director_words.specs.declared.status.Status.TheVariants.{Done, NotBuilt, Usage, Unknown, FolderFault, SourceFault, SinkFault, NoMemory}
+use Rattle.director_words.specs.declared.status.Status.TheVariants.{Done, NotBuilt, Usage, SourceRefused, Unknown, FolderFault, SourceFault, SinkFault, Limit, NoMemory}
 
 -- A fact that holds wherever the command has committed a state.
 abbrev pub OnCommitted : Status → Type 0 → Type 0
@@ -9,9 +9,11 @@ OnCommitted (SinkFault (Some number)) P = P
 OnCommitted (SinkFault None) P = ⊤
 OnCommitted NotBuilt P = ⊤
 OnCommitted Usage P = ⊤
+OnCommitted (SourceRefused folder why) P = ⊤
 OnCommitted (Unknown word) P = ⊤
 OnCommitted (FolderFault after) P = ⊤
 OnCommitted SourceFault P = ⊤
+OnCommitted (Limit what most) P = ⊤
 OnCommitted (NoMemory after) P = ⊤
 
 abbrev pub OnPerformed : Result (Unit {0}) Status → Type 0 → Type 0

@@ -2,13 +2,12 @@
 use Rattle.std.specs.Prelude.{ℕ, List, [], ◌∷◌, ◌++◌, codes, Some}
 use Rattle.folder_core.specs.declared.node.Node.TheVariants.{File, Dir}
 use Rattle.folder_core.specs.declared.node.Touch.{Touch}
-use Rattle.unit_model.specs.declared.name.UnitName.{UnitName}
-use Rattle.director_core.specs.Description.{unit_of}
+use Rattle.unit_model.specs.declared.unit.Unit.{Unit}
 use Rattle.director_core.specs.StateText.{State, state_text}
 
 -- the profile's first state: the unit is its one root and its one unit
-unfoldable pub first_state : List ℕ → UnitName → State
-first_state profile name = record { profile = profile; number = 1; roots = name ∷ []; units = unit_of name ∷ [] }
+unfoldable pub first_state : List ℕ → Unit → State
+first_state profile unit = record { profile = profile; number = 1; roots = unit.name ∷ []; units = unit ∷ [] }
 
 abbrev pub directory : List (List ℕ) → Touch
 directory path = record { path = path; node = Some Dir }
@@ -28,9 +27,9 @@ directories profile =
     ∷ []
 
 -- the directories, then the file of the state, then the number of the current one
-abbrev pub first_touches : List ℕ → UnitName → List Touch
-first_touches profile name =
+abbrev pub first_touches : List ℕ → Unit → List Touch
+first_touches profile unit =
     directories profile
-    ++ file (codes "profiles" ∷ profile ∷ codes "1.state" ∷ []) (state_text (first_state profile name))
+    ++ file (codes "profiles" ∷ profile ∷ codes "1.state" ∷ []) (state_text (first_state profile unit))
     ∷ file (codes "profiles" ∷ profile ∷ codes "current" ∷ []) (49 ∷ 10 ∷ [])
     ∷ []

@@ -3,19 +3,25 @@ use Rattle.std.specs.Prelude.{◌≡◌, ℕ, List, [], None, ◌⊎◌}
 use Rattle.folder_core.specs.declared.node.After.TheVariants.{Unchanged}
 use Rattle.director_words.specs.Status.{short_line_of}
 use Rattle.director_words.specs.declared.status.Status.{Status}
-use Rattle.director_words.specs.declared.status.Status.TheVariants.{Done, NotBuilt, Usage, Unknown, FolderFault, SourceFault, SinkFault, NoMemory}
+use Rattle.director_words.specs.declared.status.Status.TheVariants.{Done, NotBuilt, Usage, SourceRefused, Unknown, FolderFault, SourceFault, SinkFault, Limit, NoMemory}
 use Rattle.director_core.specs.Printed.{IsFront, refusal_lines}
 
 -- As it is, or as a fault of the sink.
 abbrev pub EndsOrFails : Status → Status → Type 0 → Type 0
 EndsOrFails status result SinkFailed = (result ≡ status) ⊎ ((result ≡ SinkFault None) × SinkFailed)
 
+-- The same, or there is no memory for its lines.
+abbrev pub EndsWithMemory : Status → Status → Type 0 → Type 0
+EndsWithMemory status result SinkFailed = EndsOrFails status result SinkFailed ⊎ (result ≡ NoMemory Unchanged)
+
 -- A fault and want of memory stay what they are, whether their line is written or not.
 abbrev pub Ends : Status → Status → Type 0 → Type 0
 Ends Done result SinkFailed = result ≡ Done
 Ends NotBuilt result SinkFailed = EndsOrFails NotBuilt result SinkFailed
 Ends Usage result SinkFailed = EndsOrFails Usage result SinkFailed
-Ends (Unknown word) result SinkFailed = EndsOrFails (Unknown word) result SinkFailed ⊎ (result ≡ NoMemory Unchanged)
+Ends (SourceRefused folder why) result SinkFailed = EndsWithMemory (SourceRefused folder why) result SinkFailed
+Ends (Unknown word) result SinkFailed = EndsWithMemory (Unknown word) result SinkFailed
+Ends (Limit what most) result SinkFailed = EndsWithMemory (Limit what most) result SinkFailed
 Ends (FolderFault after) result SinkFailed = result ≡ FolderFault after
 Ends SourceFault result SinkFailed = EndsOrFails SourceFault result SinkFailed
 Ends (SinkFault committed) result SinkFailed = result ≡ SinkFault committed
@@ -26,12 +32,18 @@ abbrev pub WritesOrFails : Status → Status → List ℕ → Type 0
 WritesOrFails status result lines =
     ((result ≡ status) × (lines ≡ refusal_lines status)) ⊎ ((result ≡ SinkFault None) × IsFront lines (refusal_lines status))
 
+-- The same, or there was no memory for them.
+abbrev pub WritesWithMemory : Status → Status → List ℕ → Type 0
+WritesWithMemory status result lines =
+    WritesOrFails status result lines ⊎ ((result ≡ NoMemory Unchanged) × IsFront lines (short_line_of (NoMemory Unchanged)))
+
 abbrev pub WritesRefusal : Status → Status → List ℕ → Type 0
 WritesRefusal Done result lines = lines ≡ []
 WritesRefusal NotBuilt result lines = WritesOrFails NotBuilt result lines
 WritesRefusal Usage result lines = WritesOrFails Usage result lines
-WritesRefusal (Unknown word) result lines =
-    WritesOrFails (Unknown word) result lines ⊎ ((result ≡ NoMemory Unchanged) × IsFront lines (short_line_of (NoMemory Unchanged)))
+WritesRefusal (SourceRefused folder why) result lines = WritesWithMemory (SourceRefused folder why) result lines
+WritesRefusal (Unknown word) result lines = WritesWithMemory (Unknown word) result lines
+WritesRefusal (Limit what most) result lines = WritesWithMemory (Limit what most) result lines
 WritesRefusal (FolderFault after) result lines = IsFront lines (short_line_of (FolderFault after))
 WritesRefusal SourceFault result lines = WritesOrFails SourceFault result lines
 WritesRefusal (SinkFault committed) result lines = lines ≡ []

@@ -1,15 +1,15 @@
--- The text of a state of a profile, version 1, with an empty environment and no notes.
-use Rattle.std.specs.Prelude.{ℕ, Bool, List, [], ◌∷◌, ◌++◌, codes, Option, Some, None, if◌then◌else◌}
+-- The text of a state of a profile, version 1, with an empty environment and no notes. Its units have nothing beyond a
+-- name, an update and provided capabilities.
+use Rattle.std.specs.Prelude.{ℕ, List, [], ◌∷◌, ◌++◌, codes}
 use Rattle.std.specs.List.{flat_map}
 use Rattle.std.specs.Fmt.{decimal}
 use Rattle.osgi_version.specs.Field.{field}
 use Rattle.osgi_version.specs.VersionText.{version_text}
-use Rattle.osgi_version.specs.declared.range.Range.{Range}
-use Rattle.osgi_version.specs.declared.range.Ceiling.{Ceiling}
-use Rattle.osgi_version.specs.declared.version.Version.{Version}
+use Rattle.osgi_version.specs.RangeText.{range_text}
 use Rattle.unit_model.specs.declared.name.UnitName.{UnitName}
 use Rattle.unit_model.specs.declared.provided.Provided.{Provided}
 use Rattle.unit_model.specs.declared.unit.Unit.{Unit}
+use Rattle.unit_model.specs.declared.update.Update.{Update}
 
 -- what a profile had after one of its commands: no variable of an environment is set, and no action left a note
 pub record State : Type 0 where
@@ -22,35 +22,31 @@ pub record State : Type 0 where
 unfoldable pub line : List ℕ → List (List ℕ) → List ℕ
 line word words = word ++ (flat_map (λ w. 32 ∷ w) words ++ 10 ∷ [])
 
--- the canonical text of an upper end, behind its comma
-abbrev ceiling_text : Ceiling → List ℕ
-ceiling_text ceiling = version_text ceiling.version ++ (if ceiling.included then 93 else 41) ∷ []
-
--- the canonical text of a range: a version alone, or an interval
-abbrev pub range_text : Range → List ℕ
-range_text range = interval range.floor range.floor_included range.ceiling
-  where
-    interval : Version → Bool → Option Ceiling → List ℕ
-    interval floor included None = version_text floor
-    interval floor included (Some ceiling) =
-        (if included then 91 else 40) ∷ (version_text floor ++ 44 ∷ ceiling_text ceiling)
+-- a word, and the id and version of a unit
+abbrev pub name_line : List ℕ → UnitName → List ℕ
+name_line word name = line word (field name.id ∷ version_text name.version ∷ [])
 
 abbrev pub root_line : UnitName → List ℕ
-root_line name = line (codes "root") (field name.id ∷ version_text name.version ∷ [])
+root_line name = name_line (codes "root") name
+
+abbrev pub update_line : Update → List ℕ
+update_line update =
+    line (codes "update") (field update.id ∷ range_text update.range ∷ decimal update.severity ∷ field update.description ∷ [])
 
 abbrev pub provided_line : Provided → List ℕ
 provided_line row = line (codes "provides") (field row.namespace ∷ field row.name ∷ version_text row.version ∷ [])
 
-abbrev pub unit_text : Unit → List ℕ
+unfoldable pub unit_text : Unit → List ℕ
 unit_text unit =
-    line (codes "unit") (field unit.name.id ∷ version_text unit.name.version ∷ [])
-    ++ (line (codes "update") (field unit.update.id ∷ range_text unit.update.range ∷ decimal unit.update.severity ∷ field unit.update.description ∷ [])
-    ++ (flat_map provided_line unit.provided ++ line (codes "end") ([])))
+    name_line (codes "unit") unit.name
+    ++ (update_line unit.update ++ (flat_map provided_line unit.provided ++ line (codes "end") ([])))
 
-abbrev pub state_text : State → List ℕ
-state_text state =
+unfoldable pub head_text : List ℕ → ℕ → List ℕ
+head_text profile number =
     line (codes "p2state") (codes "1" ∷ [])
-    ++ (line (codes "profile") (field state.profile ∷ [])
-    ++ (line (codes "number") (decimal state.number ∷ [])
-    ++ (flat_map root_line state.roots
-    ++ (flat_map unit_text state.units ++ line (codes "end") (codes "state" ∷ [])))))
+    ++ (line (codes "profile") (field profile ∷ []) ++ line (codes "number") (decimal number ∷ []))
+
+unfoldable pub state_text : State → List ℕ
+state_text state =
+    head_text state.profile state.number
+    ++ (flat_map root_line state.roots ++ (flat_map unit_text state.units ++ line (codes "end") (codes "state" ∷ [])))

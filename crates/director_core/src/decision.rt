@@ -1,29 +1,23 @@
-ghost use Rattle.std.specs.Prelude.{◌≡◌, ◌≢◌, ◌≤◌, ℕ, List as Bytes, [], ◌∷◌, Some, IfOk, IfErr, IfSome, IfNone, OnOk, Err};
+ghost use Rattle.std.specs.Prelude.{◌≡◌, ◌≢◌, ◌≤◌, ℕ, List as Bytes, [], ◌∷◌, IfOk, IfErr, IfSome, IfNone, OnOk};
 ghost use Rattle.unit_model.specs.Profile.{IsProfile};
 ghost use Rattle.folder_core.specs.Cause.{Rose};
 ghost use Rattle.folder_core.specs.Step.{OnTold, Step};
 ghost use Rattle.director_words.specs.Root.{IsRootWord};
+ghost use Rattle.director_words.specs.Status.{CanPrint};
 ghost use Rattle.director_words.specs.declared.status.Status.TheVariants as status;
 ghost use Rattle.director_core.specs.Answer.{IsAsked, AsksFor, HasChild, Installs, IsAnswer};
-ghost use Rattle.director_core.specs.Description.{IsUnitName};
 ghost use Rattle.director_core.specs.Laid.{IsBare};
-ghost use Rattle.director_core.specs.Named.{Names, NamesNone};
+ghost use Rattle.director_core.specs.Planned.{IsReady};
 ghost use Rattle.director_core.specs.Stops.{Stops};
 
-use crate::look_up::names;
+use crate::look_up::look_up;
+use crate::plan::Plan;
+use crate::planning::plan_for;
 use crate::source::read_source;
 use director_words::{Request, RequestFault, Status, read_request};
 use folder_core::{After, Folder, FolderError, Path, Tree};
 use osgi_version::{List, Text};
 use std::alloc::Global;
-use unit_model::UnitName;
-
-/// What an install is to do: the unit of this name is to come to the profile.
-#[derive(Debug, Drop)]
-pub(crate) struct Plan {
-    pub profile: Text,
-    pub name: UnitName,
-}
 
 /// A profile, and the word that names the unit.
 #[derive(Debug, Drop)]
@@ -39,16 +33,17 @@ pub(crate) fn decide<F: Folder, T: Tree>(
     folder: &mut F,
     source: &mut T,
 ) -> Result<Plan, Status>
-    ensures form { IfOk result (λ plan. IsProfile plan.profile × IsUnitName plan.name) }
+    ensures ready { IfOk result IsReady }
     ensures asked { IfOk result (λ plan. IsAsked words.now) }
     ensures found { IfOk result (λ plan. OnTold (F.told folder.old) (λ s. OnTold (T.told source.old)
-        (λ files. Installs words.now s.now files plan.profile plan.name))) }
+        (λ files. Installs words.now s.now files plan.profile plan.unit))) }
     ensures bare { IfOk result (λ plan. OnTold (F.told folder.new) (λ s. IsBare s.now)) }
-    ensures refused { IfErr result (λ s. Stops (¬ (IsAsked words.now)) (IsAsked words.now)
+    ensures refused { IfErr result (Stops (¬ (IsAsked words.now))
         (IsAsked words.now × Rose (F.faults folder.old) (F.faults folder.new))
-        (IsAsked words.now × Rose (T.faults source.old) (T.faults source.new)) (λ word. IsAsked words.now) s) }
+        (IsAsked words.now × Rose (T.faults source.old) (T.faults source.new)) (λ s. IsAsked words.now)) }
     ensures answer { IfErr result (λ s. OnTold (F.told folder.old) (λ t. OnTold (T.told source.old)
         (λ files. IsAnswer words.now t.now files s))) }
+    ensures printable { IfErr result CanPrint }
     ensures stays { Step (F.told folder.old) (F.told folder.new) (λ s t. t.now ≡ s.now) }
     ensures tree { T.told source.new ≡ T.told source.old }
     ensures later_folder { F.faults folder.old ≤ F.faults folder.new }
@@ -56,12 +51,10 @@ pub(crate) fn decide<F: Folder, T: Tree>(
 {
     let asked = read_words(alloc, words)?;
     check_bare(alloc, folder)?;
-    let unit = read_source(alloc, source)?;
-    let name = look_up(alloc, asked.word, unit)?;
-    Ok(Plan {
-        profile: asked.profile,
-        name,
-    })
+    let units = read_source(alloc, source)?;
+    let unit = look_up(alloc, asked.word, &units)?;
+    let plan = plan_for(alloc, asked.profile, unit)?;
+    Ok(plan)
 }
 
 /// Of the requests that words denote, the install of one root is built. All else is `Usage` for now.
@@ -69,7 +62,8 @@ fn read_words(alloc: Global, words: &[Text]) -> Result<Asked, Status>
     ensures found { IfOk result (λ asked. AsksFor words.now asked.profile asked.word) }
     ensures profile { IfOk result (λ asked. IsProfile asked.profile) }
     ensures root { IfOk result (λ asked. IsRootWord asked.word) }
-    ensures refused { IfErr result (Stops (¬ (IsAsked words.now)) ⊥ ⊥ ⊥ (λ word. ⊥)) }
+    ensures refused { IfErr result (Stops (¬ (IsAsked words.now)) ⊥ ⊥ (λ s. ⊥)) }
+    ensures printable { IfErr result CanPrint }
 {
     match read_request(alloc, words) {
         Ok(
@@ -101,8 +95,9 @@ fn only_root(roots: List<Text>) -> Option<Text>
 /// A folder that isn't empty is `NotBuilt`.
 fn check_bare<F: Folder>(alloc: Global, folder: &mut F) -> Result<(), Status>
     ensures bare { OnOk result (OnTold (F.told folder.old) (λ s. IsBare s.now)) }
-    ensures refused { IfErr result (Stops ⊥ (OnTold (F.told folder.old) (λ s. HasChild s.now))
-        (Rose (F.faults folder.old) (F.faults folder.new)) ⊥ (λ word. ⊥)) }
+    ensures refused { IfErr result (Stops ⊥ (Rose (F.faults folder.old) (F.faults folder.new)) ⊥
+        (λ s. (s ≡ status.NotBuilt) × OnTold (F.told folder.old) (λ t. HasChild t.now))) }
+    ensures printable { IfErr result CanPrint }
     ensures stays { Step (F.told folder.old) (F.told folder.new) (λ s t. t.now ≡ s.now) }
     ensures later { F.faults folder.old ≤ F.faults folder.new }
 {
@@ -115,21 +110,5 @@ fn check_bare<F: Folder>(alloc: Global, folder: &mut F) -> Result<(), Status>
         Ok(())
     } else {
         Err(Status::NotBuilt)
-    }
-}
-
-/// The unit that the word names. `Unknown` holds the word where it names none.
-fn look_up(alloc: Global, word: Text, unit: Option<UnitName>) -> Result<UnitName, Status>
-    requires { IsRootWord word }
-    ensures found { IfOk result (λ name. (unit ≡ Some name) × Names word name) }
-    ensures refused { IfErr result (Stops ⊥ ⊥ ⊥ ⊥ (λ named. (named ≡ word) × NamesNone word unit)) }
-{
-    let Some(name) = unit else {
-        return Err(Status::Unknown(word));
-    };
-    if names(alloc, &word, &name)? {
-        Ok(name)
-    } else {
-        Err(Status::Unknown(word))
     }
 }

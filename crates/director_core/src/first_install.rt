@@ -1,36 +1,29 @@
 ghost use Rattle.std.specs.Prelude.{◌≡◌, ◌≤◌, length, map, All, IfOk, Some};
 ghost use Rattle.unit_model.specs.Profile.{IsProfile};
 ghost use Rattle.folder_core.specs.Name.{IsName};
-ghost use Rattle.director_core.specs.Description.{IsUnitName};
 ghost use Rattle.director_core.specs.FirstInstall.{directory, directories, file, first_touches};
+ghost use Rattle.director_core.specs.Planned.{IsReady};
 
 use crate::places::path_of;
-use crate::state_lines::first_state_text;
+use crate::plan::Plan;
 use folder_core::{Blob, Node, Touch};
-use osgi_version::{List, NoMemory, Text};
+use osgi_version::{List, NoMemory, Twin};
 use std::alloc::Global;
-use unit_model::UnitName;
 
 /// What the owner of a file may do, and all others: read, and the owner write.
 const FILE_MODE: u16 = 0o644;
 
 /// The nodes of the first install of one unit, in the order in which they are put.
-pub(crate) fn first_touches(
-    alloc: Global,
-    profile: &Text,
-    name: &UnitName,
-) -> Result<List<Touch>, NoMemory>
-    requires profile { IsProfile profile.now }
-    requires name { IsUnitName name.now }
-    ensures { IfOk result (λ touches. touches ≡ first_touches profile.now name.now) }
+pub(crate) fn first_touches(alloc: Global, plan: &Plan) -> Result<List<Touch>, NoMemory>
+    requires { IsReady plan.now }
+    ensures { IfOk result (λ touches. touches ≡ first_touches plan.now.profile plan.now.unit) }
 {
-    let mut touches = directories(alloc, profile.as_str())?;
-    let state = first_state_text(alloc, profile.bytes(), name)?;
-    let state_path = ["profiles", profile.as_str(), "1.state"];
-    touches.push(file(alloc, &state_path, state)?)?;
+    let profile = plan.profile.as_str();
+    let mut touches = directories(alloc, profile)?;
+    let state = plan.state.copy()?;
+    touches.push(file(alloc, &["profiles", profile, "1.state"], state)?)?;
     let current = List::from_vec(Vec::from_slice(alloc, b"1\n")?);
-    let current_path = ["profiles", profile.as_str(), "current"];
-    touches.push(file(alloc, &current_path, current)?)?;
+    touches.push(file(alloc, &["profiles", profile, "current"], current)?)?;
     Ok(List::from_vec(touches))
 }
 

@@ -1,16 +1,16 @@
 ghost use Rattle.std.specs.Prelude.{◌≡◌, ◌≤◌, ◌++◌, IfOk, IfErr, OnOk};
-ghost use Rattle.unit_model.specs.Profile.{IsProfile};
+ghost use Rattle.osgi_version.specs.VersionText.{IsVersion};
 ghost use Rattle.folder_core.specs.Cause.{Rose};
 ghost use Rattle.folder_core.specs.Step.{OnTold, Step};
-ghost use Rattle.director_core.specs.Description.{IsUnitName};
 ghost use Rattle.director_core.specs.Durable.{OnPerformed};
 ghost use Rattle.director_core.specs.Laid.{IsBare};
 ghost use Rattle.director_core.specs.Performs.{Fails, LeavesPerformed, PrintsPerformed, Adds};
+ghost use Rattle.director_core.specs.Planned.{IsReady};
 ghost use Rattle.director_core.specs.Printed.{plan_lines};
 
-use crate::decision::Plan;
 use crate::first_install::first_touches;
 use crate::laying::lay;
+use crate::plan::Plan;
 use crate::writing::write_all;
 use director_words::{Status, add_line, done_line, plan_line};
 use folder_core::{After, Folder, FolderError, Sink};
@@ -24,15 +24,14 @@ pub(crate) fn perform<F: Folder, K: Sink>(
     out: &mut K,
     plan: &Plan,
 ) -> Result<(), Status>
-    requires profile { IsProfile plan.now.profile }
-    requires name { IsUnitName plan.now.name }
+    requires ready { IsReady plan.now }
     requires bare { OnTold (F.told folder.old) (λ s. IsBare s.now) }
     ensures failed { IfErr result (Fails (Rose (F.faults folder.old) (F.faults folder.new)) (Rose (K.faults out.old) (K.faults out.new))) }
     ensures leaves { Step (F.told folder.old) (F.told folder.new)
-        (λ s t. LeavesPerformed plan.now.profile plan.now.name s.now result t.now) }
+        (λ s t. LeavesPerformed plan.now.profile plan.now.unit s.now result t.now) }
     ensures synced { OnPerformed result (OnTold (F.told folder.new) (λ t. t.synced ≡ t.now)) }
     ensures prints { Step (K.told out.old) (K.told out.new)
-        (Adds (PrintsPerformed plan.now.profile plan.now.name result)) }
+        (Adds (PrintsPerformed plan.now.profile plan.now.unit result)) }
     ensures later_folder { F.faults folder.old ≤ F.faults folder.new }
     ensures later_sink { K.faults out.old ≤ K.faults out.new }
 {
@@ -50,27 +49,26 @@ pub(crate) fn perform<F: Folder, K: Sink>(
 
 /// The lines of the plan: one unit comes to an empty profile.
 fn plan_lines(alloc: Global, plan: &Plan) -> Result<Vec<u8>, NoMemory>
-    requires { IsUnitName plan.now.name }
-    ensures { IfOk result (λ lines. lines.items ≡ plan_lines plan.now.profile plan.now.name) }
+    requires { IsVersion plan.now.unit.name.version }
+    ensures { IfOk result (λ lines. lines.items ≡ plan_lines plan.now.profile plan.now.unit) }
 {
     let mut lines = plan_line(alloc, plan.profile.bytes(), 1)?.into_vec();
-    let add = add_line(alloc, &plan.name)?;
+    let add = add_line(alloc, &plan.unit.name)?;
     lines.extend_from_slice(add.items())?;
     Ok(lines)
 }
 
 /// Puts the nodes of the first install, and makes them last.
 fn put<F: Folder>(alloc: Global, folder: &mut F, plan: &Plan) -> Result<(), Status>
-    requires profile { IsProfile plan.now.profile }
-    requires name { IsUnitName plan.now.name }
+    requires ready { IsReady plan.now }
     requires bare { OnTold (F.told folder.old) (λ s. IsBare s.now) }
     ensures failed { IfErr result (Fails (Rose (F.faults folder.old) (F.faults folder.new)) ⊥) }
     ensures synced { OnOk result (OnTold (F.told folder.new) (λ t. t.synced ≡ t.now)) }
     ensures leaves { Step (F.told folder.old) (F.told folder.new)
-        (λ s t. LeavesPerformed plan.now.profile plan.now.name s.now result t.now) }
+        (λ s t. LeavesPerformed plan.now.profile plan.now.unit s.now result t.now) }
     ensures later { F.faults folder.old ≤ F.faults folder.new }
 {
-    let touches = first_touches(alloc, &plan.profile, &plan.name)?;
+    let touches = first_touches(alloc, plan)?;
     match lay(folder, &touches) {
         Ok(()) => {}
         Err(FolderError::Failed) => return Err(Status::FolderFault(After::Recover)),

@@ -1,21 +1,20 @@
 ghost use Rattle.std.specs.Prelude.{◌≡◌, ◌≤◌, [], List, ℕ};
 ghost use Rattle.folder_core.specs.Cause.{Rose};
 ghost use Rattle.folder_core.specs.Step.{Step};
-ghost use Rattle.director_words.specs.Status.{short_line_of, lines_of};
-ghost use Rattle.director_words.specs.declared.status.Status.TheVariants as status_of;
+ghost use Rattle.director_words.specs.Status.{CanPrint, short_line_of, lines_of};
 ghost use Rattle.director_core.specs.Performs.{Adds};
 ghost use Rattle.director_core.specs.Printed.{IsFront};
-ghost use Rattle.director_core.specs.Refuses.{Ends, EndsOrFails, WritesRefusal, WritesOrFails};
+ghost use Rattle.director_core.specs.Refuses.{Ends, EndsOrFails, EndsWithMemory, WritesRefusal, WritesOrFails, WritesWithMemory};
 
 use crate::writing::write_all;
 use director_words::{Status, lines, short_line};
 use folder_core::{After, Sink};
-use osgi_version::Text;
 use std::alloc::Global;
 
 /// Writes the lines of a refusal, and answers how the command ends. Where the sink fails on them that is its
 /// fault, except that a fault of the folder and want of memory stay.
 pub(crate) fn refuse<K: Sink>(alloc: Global, out: &mut K, status: Status) -> Status
+    requires { CanPrint status }
     ensures ends { Ends status result (Rose (K.faults out.old) (K.faults out.new)) }
     ensures prints { Step (K.told out.old) (K.told out.new) (Adds (WritesRefusal status result)) }
     ensures later { K.faults out.old ≤ K.faults out.new }
@@ -24,20 +23,28 @@ pub(crate) fn refuse<K: Sink>(alloc: Global, out: &mut K, status: Status) -> Sta
         Status::Done => Status::Done,
         Status::NotBuilt => refuse_shortly(out, Status::NotBuilt),
         Status::Usage => refuse_shortly(out, Status::Usage),
-        Status::Unknown(word) => refuse_unknown(alloc, out, word),
+        Status::SourceRefused { folder, why } => {
+            refuse_at_length(alloc, out, Status::SourceRefused { folder, why })
+        }
+        Status::Unknown(word) => refuse_at_length(alloc, out, Status::Unknown(word)),
         Status::FolderFault(after) => report(out, Status::FolderFault(after)),
         Status::SourceFault => refuse_shortly(out, Status::SourceFault),
         Status::SinkFault { committed } => Status::SinkFault { committed },
+        Status::Limit { what, most } => {
+            refuse_at_length(alloc, out, Status::Limit { what, most })
+        }
         Status::NoMemory(after) => report(out, Status::NoMemory(after)),
     }
 }
 
-fn refuse_unknown<K: Sink>(alloc: Global, out: &mut K, word: Text) -> Status
-    ensures ends { Ends (status_of.Unknown word) result (Rose (K.faults out.old) (K.faults out.new)) }
-    ensures prints { Step (K.told out.old) (K.told out.new) (Adds (WritesRefusal (status_of.Unknown word) result)) }
+/// A refusal that has no short line.
+fn refuse_at_length<K: Sink>(alloc: Global, out: &mut K, status: Status) -> Status
+    requires printable { CanPrint status }
+    requires long { short_line_of status ≡ [] }
+    ensures ends { EndsWithMemory status result (Rose (K.faults out.old) (K.faults out.new)) }
+    ensures prints { Step (K.told out.old) (K.told out.new) (Adds (WritesWithMemory status result)) }
     ensures later { K.faults out.old ≤ K.faults out.new }
 {
-    let status = Status::Unknown(word);
     match lines(alloc, &status) {
         Ok(lines) => match write_all(out, lines.items()) {
             Ok(()) => status,

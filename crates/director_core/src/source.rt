@@ -1,28 +1,35 @@
-ghost use Rattle.std.specs.Prelude.{◌≡◌, ◌≤◌, ◌<◌, ◌↔◌, ◌||◌, ℕ, List, codes, nat_eq, length, IfOk, IfErr, IfSome, IsTrue, Some};
+//! The source, folder by folder.
+
+ghost use Rattle.std.specs.Prelude.{◌≡◌, ◌≤◌, ◌<◌, ◌||◌, codes, nat_eq, length, Ok, Err, IfOk, IfErr, IsSomeAnd, OnOk, All};
 ghost use Rattle.std.specs.Cmp.Lexicographic.{pointwise};
+ghost use Rattle.folder_core.specs.Cause.{Rose};
 ghost use Rattle.folder_core.specs.Step.{OnTold};
-ghost use Rattle.director_core.specs.Description.{IsUnitName};
-ghost use Rattle.director_core.specs.Source.{Gives, IsBeyond, IsDescribed, IsBeyondAt, IsTooLong, description_of};
+ghost use Rattle.inf_reader.specs.InForm.{IsUnitInForm};
+ghost use Rattle.inf_reader.specs.Readings.{Readings, ReadsAll};
+ghost use Rattle.director_words.specs.Status.{CanPrint};
+ghost use Rattle.director_words.specs.declared.limit.LimitName.TheVariants.{InfBytes};
+ghost use Rattle.director_words.specs.declared.status.Status.TheVariants as status;
+ghost use Rattle.director_core.specs.Gathering.{IsGathering, gathered_in};
+ghost use Rattle.director_core.specs.Source.{SourceGives, with_found, description_of};
 ghost use Rattle.director_core.specs.SourceStop.{StopsReading};
 
-use crate::description::read_description;
+use crate::gathering::Gathering;
 use crate::places::path_of;
-use director_words::Status;
+use director_words::{LimitName, Status};
 use folder_core::{After, Blob, Name, Path, Tree, TreeError};
+use osgi_version::List;
 use std::alloc::Global;
-use unit_model::UnitName;
+use unit_model::Unit;
 
 const LONGEST_DESCRIPTION: u64 = 1_048_576;
 
-/// The unit that the source gives, or none. More than one plain description is `NotBuilt`.
-pub(crate) fn read_source<T: Tree>(
-    alloc: Global,
-    source: &mut T,
-) -> Result<Option<UnitName>, Status>
-    ensures found { IfOk result (λ unit. OnTold (T.told source.old) (λ files. Gives files unit)) }
-    ensures form { IfOk result (λ unit. IfSome unit IsUnitName) }
-    ensures refused { IfErr result
-        (StopsReading (OnTold (T.told source.old) IsBeyond) (T.faults source.old) (T.faults source.new)) }
+/// The units of the folders of the source, the first of a name winning.
+pub(crate) fn read_source<T: Tree>(alloc: Global, source: &mut T) -> Result<List<Unit>, Status>
+    ensures found { IfOk result (λ units. OnTold (T.told source.old) (λ files. SourceGives files (Ok units))) }
+    ensures form { IfOk result (All IsUnitInForm) }
+    ensures refused { IfErr result (StopsReading (λ s. OnTold (T.told source.old) (λ files. SourceGives files (Err s)))
+        (Rose (T.faults source.old) (T.faults source.new))) }
+    ensures printable { IfErr result CanPrint }
     ensures stays { T.told source.new ≡ T.told source.old }
     ensures later { T.faults source.old ≤ T.faults source.new }
 {
@@ -31,31 +38,34 @@ pub(crate) fn read_source<T: Tree>(
         Err(TreeError::NoMemory) => return Err(Status::NoMemory(After::Unchanged)),
         Err(_) => return Err(Status::SourceFault),
     };
-    match folders.items() {
-        [] => Ok(None),
-        [folder] => read_folder(alloc, source, folder),
-        [_, _, ..] => Err(Status::NotBuilt),
+    let mut so_far = Gathering::new(alloc);
+    for folder in folders.items() {
+        read_folder(alloc, source, folder, &mut so_far)?;
     }
+    Ok(so_far.units)
 }
 
+/// Adds the units of a folder. One without a description is passed over.
 fn read_folder<T: Tree>(
     alloc: Global,
     source: &mut T,
     folder: &Name,
-) -> Result<Option<UnitName>, Status>
-    ensures found { IfOk result (λ unit. OnTold (T.told source.old) (λ files. IsDescribed files folder.now unit)) }
-    ensures form { IfOk result (λ unit. IfSome unit IsUnitName) }
-    ensures refused { IfErr result
-        (StopsReading (OnTold (T.told source.old) (λ files. IsBeyondAt files folder.now)) (T.faults source.old) (T.faults source.new)) }
+    so_far: &mut Gathering,
+) -> Result<(), Status>
+    requires { IsGathering so_far.old }
+    ensures is { OnOk result (IsGathering so_far.new) }
+    ensures found { OnOk result (OnTold (T.told source.old) (λ files. (read : Readings) → ReadsAll read
+        → with_found read folder.now (gathered_in so_far.old) (description_of files folder.now) ≡ Ok (gathered_in so_far.new))) }
+    ensures refused { IfErr result (StopsReading (λ s. OnTold (T.told source.old) (λ files. (read : Readings) → ReadsAll read
+        → with_found read folder.now (gathered_in so_far.old) (description_of files folder.now) ≡ Err s))
+        (Rose (T.faults source.old) (T.faults source.new))) }
+    ensures printable { IfErr result CanPrint }
     ensures stays { T.told source.new ≡ T.told source.old }
     ensures later { T.faults source.old ≤ T.faults source.new }
 {
-    let Some(description) = find_description(alloc, source, folder)? else {
-        return Ok(None);
-    };
-    match read_description(alloc, description.bytes())? {
-        Some(name) => Ok(Some(name)),
-        None => Err(Status::NotBuilt),
+    match find_description(alloc, source, folder)? {
+        Some(description) => so_far.describe(alloc, folder, description.bytes()),
+        None => Ok(()),
     }
 }
 
@@ -66,8 +76,10 @@ fn find_description<T: Tree>(
     folder: &Name,
 ) -> Result<Option<Blob>, Status>
     ensures found { IfOk result (λ found. OnTold (T.told source.old) (λ files. description_of files folder.now ≡ found)) }
-    ensures refused { IfErr result
-        (StopsReading (OnTold (T.told source.old) (λ files. IsBeyondAt files folder.now)) (T.faults source.old) (T.faults source.new)) }
+    ensures refused { IfErr result (StopsReading (λ s. OnTold (T.told source.old) (λ files. (s ≡ status.Limit InfBytes 1048576)
+        × IsSomeAnd (description_of files folder.now) (λ bytes. 1048576 < length bytes)))
+        (Rose (T.faults source.old) (T.faults source.new))) }
+    ensures printable { IfErr result CanPrint }
     ensures stays { T.told source.new ≡ T.told source.old }
     ensures later { T.faults source.old ≤ T.faults source.new }
 {
@@ -92,15 +104,20 @@ fn holds_artifacts(folder: &Name) -> bool
 
 fn read_file<T: Tree>(alloc: Global, source: &mut T, path: &Path) -> Result<Option<Blob>, Status>
     ensures found { IfOk result (λ found. OnTold (T.told source.old) (λ files. files path.now ≡ found)) }
-    ensures refused { IfErr result
-        (StopsReading (OnTold (T.told source.old) (λ files. IsTooLong files path.now)) (T.faults source.old) (T.faults source.new)) }
+    ensures refused { IfErr result (StopsReading (λ s. OnTold (T.told source.old) (λ files. (s ≡ status.Limit InfBytes 1048576)
+        × IsSomeAnd (files path.now) (λ bytes. 1048576 < length bytes)))
+        (Rose (T.faults source.old) (T.faults source.new))) }
+    ensures printable { IfErr result CanPrint }
     ensures stays { T.told source.new ≡ T.told source.old }
     ensures later { T.faults source.old ≤ T.faults source.new }
 {
     match source.read(alloc, path, LONGEST_DESCRIPTION) {
         Ok(found) => Ok(found),
         Err(TreeError::Failed) => Err(Status::SourceFault),
-        Err(TreeError::TooLarge) => Err(Status::NotBuilt),
+        Err(TreeError::TooLarge) => Err(Status::Limit {
+            what: LimitName::InfBytes,
+            most: LONGEST_DESCRIPTION,
+        }),
         Err(TreeError::NoMemory) => Err(Status::NoMemory(After::Unchanged)),
     }
 }

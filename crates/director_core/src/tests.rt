@@ -143,23 +143,162 @@ fn words_are_refused(rt: HostRuntime) -> Result<(), Fail> {
 
 const NO_FILE: [(&str, &str); 0] = [];
 
-const TWO_FOLDERS: [(&str, &str); 2] = [("f/q", ""), ("g/q", "")];
+const NO_DESCRIPTION: [(&str, &str); 2] = [("f/q", ""), ("g/q", "")];
 
 #[test]
-fn sources_are_refused(rt: HostRuntime) -> Result<(), Fail> {
+fn folders_without_a_description_are_passed_over(rt: HostRuntime) -> Result<(), Fail> {
     let (alloc, line) = (rt.alloc(), "install -p ide a");
     assert!(rt; is_refused(alloc, &NO_FILE, line, 4, "unknown a\n")?);
-    assert!(rt; is_refused(alloc, &TWO_FOLDERS, line, 1, "not-built\n")?);
-    for (path, code, printed) in [
-        ("f/q", 4, "unknown a\n"),
-        ("artifacts/p2.inf", 4, "unknown a\n"),
-        ("f/p2.inf", 1, "not-built\n"),
-    ] {
+    assert!(rt; is_refused(alloc, &NO_DESCRIPTION, line, 4, "unknown a\n")?);
+    for path in ["f/q", "artifacts/p2.inf"] {
         assert!(rt;
-            is_refused(alloc, &[(path, "x")], line, code, printed)?,
+            is_refused(alloc, &[(path, "x")], line, 4, "unknown a\n")?,
             "at {path}"
         );
     }
+    Ok(())
+}
+
+#[test]
+fn descriptions_are_refused(rt: HostRuntime) -> Result<(), Fail> {
+    for (text, code, printed) in [
+        (
+            "units.0.colour=red",
+            3,
+            "source-refused f key units.0.colour UnknownKey\n",
+        ),
+        ("units.0.id=\\uD800", 3, "source-refused f line 1 BadEscape\n"),
+        (
+            "units.0.id=a",
+            3,
+            "source-refused f key units.0.id MissingId\n",
+        ),
+        (
+            "units.0.id=a\nunits.0.version=1\nunits.1.id=a\nunits.1.version=1.0",
+            3,
+            "source-refused f key a/1.0.0 Duplicate\n",
+        ),
+        (
+            "units.0.id=a\nunits.0.version=1\nunits.0.singleton=true",
+            1,
+            "not-built\n",
+        ),
+    ] {
+        assert!(rt;
+            is_refused(rt.alloc(), &[("f/p2.inf", text)], "install -p ide a", code, printed)?,
+            "of {text}"
+        );
+    }
+    Ok(())
+}
+
+/// The first refusal is that of the first folder, in the order of their names.
+#[test]
+fn the_first_folder_is_refused_first(rt: HostRuntime) -> Result<(), Fail> {
+    let files = [
+        ("g/p2.inf", "colour=red"),
+        ("f/META-INF/p2.inf", "size=1"),
+    ];
+    let printed = "source-refused f key size UnknownKey\n";
+    assert!(rt; is_refused(rt.alloc(), &files, "install -p ide a", 3, printed)?);
+    Ok(())
+}
+
+/// Whether a command over an empty folder comes to its end and prints this.
+fn is_done(
+    alloc: Global,
+    files: &[(&str, &str)],
+    line: &str,
+    printed: &str,
+) -> Result<bool, Fail> {
+    let mut folder = MemoryFolder::new(alloc);
+    let (status, out) = command(alloc, &mut folder, files, line)?;
+    Ok(status.code() == 0 && out.bytes() == printed.as_bytes())
+}
+
+const VERSIONS: [(&str, &str); 3] = [
+    ("f/p2.inf", "units.0.id=a\nunits.0.version=1.9\n"),
+    ("g/p2.inf", "units.0.id=a\nunits.0.version=1.10\n"),
+    (
+        "h_2.0.0/META-INF/p2.inf",
+        "provides.0.namespace=n\nprovides.0.name=m\n",
+    ),
+];
+
+#[test]
+fn an_id_alone_is_its_greatest_version(rt: HostRuntime) -> Result<(), Fail> {
+    for (word, name) in [
+        ("a", "a/1.10.0"),
+        ("a/1.9", "a/1.9.0"),
+        ("h", "h/2.0.0"),
+    ] {
+        let line = format!(in rt.alloc(); "install -p ide {word}")?;
+        let printed = format!(in rt.alloc(); "plan ide 1\nadd {name}\ndone ide 1\n")?;
+        assert!(rt; is_done(rt.alloc(), &VERSIONS, line.as_str(), printed.as_str())?, "of {word}");
+    }
+    Ok(())
+}
+
+const ONE_NAME: [(&str, &str); 2] = [
+    (
+        "f/p2.inf",
+        "units.0.id=a\nunits.0.version=1\nunits.0.update.description=first\n",
+    ),
+    (
+        "g/p2.inf",
+        "units.0.id=a\nunits.0.version=1\nunits.0.update.description=second\n",
+    ),
+];
+
+const FIRST_OF_A_NAME: &str = "p2state 1\nprofile ide\nnumber 1\nroot a 1.0.0\nunit a 1.0.0\n\
+    update a [0.0.0,1.0.0) 0 first\nprovides org.eclipse.equinox.p2.iu a 1.0.0\nend\nend state\n";
+
+#[test]
+fn the_first_of_a_name_wins(rt: HostRuntime) -> Result<(), Fail> {
+    let alloc = rt.alloc();
+    let mut folder = MemoryFolder::new(alloc);
+    let (status, _) = command(alloc, &mut folder, &ONE_NAME, "install -p ide a")?;
+    assert_eq!(rt; status.code(), 0);
+    assert!(rt; has_file(alloc, &folder, "profiles/ide/1.state", FIRST_OF_A_NAME)?);
+    Ok(())
+}
+
+/// A source of one description of so many bytes.
+fn source_of_length(alloc: Global, length: usize) -> Result<MemoryTree, Fail> {
+    let mut bytes = Vec::new(alloc);
+    for _ in 0..length {
+        bytes.push(b'#')?;
+    }
+    let blob = Blob::new(List::from_vec(bytes)).ok_or("a short file")?;
+    let mut source = MemoryTree::new(alloc);
+    source.put(&path_at(alloc, "f/p2.inf")?, &blob)?;
+    Ok(source)
+}
+
+/// What an install from a description of so many bytes prints.
+fn printed_of_length(alloc: Global, length: usize) -> Result<MemorySink, Fail> {
+    let words = words_of(alloc, "install -p ide a")?;
+    let mut source = source_of_length(alloc, length)?;
+    let mut folder = MemoryFolder::new(alloc);
+    let mut input = MemoryInput::new(alloc, List::new(alloc), List::new(alloc));
+    let mut out = MemorySink::new(alloc, 4096, List::new(alloc))?;
+    let _ = run(
+        alloc,
+        words.as_slice(),
+        &mut folder,
+        &mut source,
+        &mut input,
+        &mut out,
+    );
+    Ok(out)
+}
+
+#[test]
+fn a_description_has_a_limit(rt: HostRuntime) -> Result<(), Fail> {
+    let most = printed_of_length(rt.alloc(), 1_048_576)?;
+    assert_eq!(rt; most.bytes(), b"unknown a\n".as_slice());
+    let more = printed_of_length(rt.alloc(), 1_048_577)?;
+    assert_eq!(rt; more.bytes(), b"limit InfBytes 1048576\n".as_slice());
     Ok(())
 }
 

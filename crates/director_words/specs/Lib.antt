@@ -1,9 +1,11 @@
 pub mod Command
+pub mod Limit
 pub mod Lines
 pub mod Number
 pub mod Pair
 pub mod Request
 pub mod Root
 pub mod Slash
+pub mod SourceWhy
 pub mod Status
 pub mod Values

@@ -14,9 +14,13 @@ plan_line_of profile number = state_line (codes "plan ") profile number
 abbrev pub done_line_of : List ℕ → ℕ → List ℕ
 done_line_of profile number = state_line (codes "done ") profile number
 
--- a unit's id and version, as one field
+-- a unit's id and version
+abbrev pub name_text : UnitName → List ℕ
+name_text name = name.id ++ 47 ∷ version_text name.version
+
+-- the same as one field
 abbrev pub unit_field : UnitName → List ℕ
-unit_field name = field (name.id ++ 47 ∷ version_text name.version)
+unit_field name = field (name_text name)
 
 abbrev pub add_line_of : UnitName → List ℕ
 add_line_of name = codes "add " ++ unit_field name ++ 10 ∷ []

@@ -2,6 +2,8 @@ ghost use Rattle.std.specs.Prelude.{◌≡◌};
 ghost use Rattle.folder_core.specs.declared.node.After.TheVariants as after;
 ghost use Rattle.director_words.specs.declared.status.Status.TheVariants as status;
 
+use crate::limit::LimitName;
+use crate::source_why::SourceWhy;
 use folder_core::After;
 use osgi_version::{NoMemory, Text};
 
@@ -12,6 +14,8 @@ pub enum Status {
     Done,
     /// The words denote no request.
     Usage,
+    /// A folder of the source has a description that is refused.
+    SourceRefused { folder: Text, why: SourceWhy },
     /// A named root isn't there: the word as it was given.
     Unknown(Text),
     /// The folder failed.
@@ -20,6 +24,8 @@ pub enum Status {
     SourceFault,
     /// The output failed. `committed` is the state that this command has committed.
     SinkFault { committed: Option<u32> },
+    /// What is there passes `most`.
+    Limit { what: LimitName, most: u64 },
     /// Memory ran out.
     NoMemory(After),
     /// What the command met isn't built yet.
@@ -37,10 +43,12 @@ impl Status {
             Status::Done => 0,
             Status::NotBuilt => 1,
             Status::Usage => 2,
+            Status::SourceRefused { .. } => 3,
             Status::Unknown(_) => 4,
             Status::FolderFault(_) => 9,
             Status::SourceFault => 10,
             Status::SinkFault { .. } => 12,
+            Status::Limit { .. } => 15,
             Status::NoMemory(_) => 17,
         }
     }

@@ -1,5 +1,8 @@
+ghost use Rattle.director_words.specs.SourceWhy.{CanPrintWhy};
+
 use super::*;
 use folder_core::After;
+use inf_reader::InfRefusal;
 use osgi_version::{List, NoMemory, Text, Twin, Version};
 use std::alloc::Global;
 use std::test::Fail;
@@ -204,8 +207,16 @@ fn words_that_denote_none(rt: HostRuntime) -> Result<(), Fail> {
 }
 
 /// Whether a status has this code and prints these lines.
+/// The lines, but for a source that is refused.
+fn lines_of(alloc: Global, status: &Status) -> Result<List<u8>, NoMemory> {
+    match status {
+        Status::SourceRefused { .. } => Ok(List::new(alloc)),
+        _ => lines(alloc, status),
+    }
+}
+
 fn tells(alloc: Global, status: &Status, code: u8, printed: &str) -> Result<bool, Fail> {
-    let more = lines(alloc, status)?;
+    let more = lines_of(alloc, status)?;
     let mut all = Vec::from_slice(alloc, short_line(status))?;
     all.extend_from_slice(more.items())?;
     Ok(status.code() == code && all.as_slice() == printed.as_bytes())
@@ -245,6 +256,102 @@ fn statuses_have_codes_and_lines(rt: HostRuntime) -> Result<(), Fail> {
 fn an_unknown_root_is_one_field(rt: HostRuntime) -> Result<(), Fail> {
     let status = Status::Unknown(Text::from_str(rt.alloc(), "a b")?);
     assert!(rt; tells(rt.alloc(), &status, 4, "unknown a%20b\n")?);
+    Ok(())
+}
+
+#[test]
+fn a_limit_is_named(rt: HostRuntime) -> Result<(), Fail> {
+    for (what, most, printed) in [
+        (LimitName::Units, 65536, "limit Units 65536\n"),
+        (LimitName::Requirements, 1024, "limit Requirements 1024\n"),
+        (LimitName::FileBytes, 67108864, "limit FileBytes 67108864\n"),
+        (LimitName::InfBytes, 1048576, "limit InfBytes 1048576\n"),
+        (
+            LimitName::SourceBytes,
+            67108864,
+            "limit SourceBytes 67108864\n",
+        ),
+    ] {
+        let status = Status::Limit { what, most };
+        assert!(rt; tells(rt.alloc(), &status, 15, printed)?, "at {printed}");
+    }
+    Ok(())
+}
+
+/// Whether the source is refused with this line, where its folder is `f g`.
+fn is_refused_so(alloc: Global, why: SourceWhy, line: &str) -> Result<bool, Fail>
+    requires { CanPrintWhy why }
+{
+    let folder = Text::from_str(alloc, "f g")?;
+    let status = Status::SourceRefused { folder, why };
+    let printed = lines(alloc, &status)?;
+    Ok(status.code() == 3 && short_line(&status).is_empty() && printed.items() == line.as_bytes())
+}
+
+#[test]
+fn a_refused_line_is_numbered(rt: HostRuntime) -> Result<(), Fail> {
+    let line = "source-refused f%20g line 3 BadEscape\n";
+    assert!(rt; is_refused_so(rt.alloc(), SourceWhy::Line(3), line)?);
+    Ok(())
+}
+
+fn key_of(alloc: Global) -> Result<Text, NoMemory> {
+    Text::from_str(alloc, "units.0.colour")
+}
+
+#[test]
+fn a_refused_key_is_named(rt: HostRuntime) -> Result<(), Fail> {
+    let alloc = rt.alloc();
+    let unknown = SourceWhy::Inf(InfRefusal::UnknownKey(key_of(alloc)?));
+    assert!(rt;
+        is_refused_so(
+            alloc,
+            unknown,
+            "source-refused f%20g key units.0.colour UnknownKey\n"
+        )?
+    );
+    let left_out = SourceWhy::Inf(InfRefusal::LeftOutKey(key_of(alloc)?));
+    assert!(rt;
+        is_refused_so(
+            alloc,
+            left_out,
+            "source-refused f%20g key units.0.colour LeftOutKey\n"
+        )?
+    );
+    let hostless = SourceWhy::Inf(InfRefusal::NoHost(key_of(alloc)?));
+    assert!(rt;
+        is_refused_so(
+            alloc,
+            hostless,
+            "source-refused f%20g key units.0.colour NoHost\n"
+        )?
+    );
+    let bad = SourceWhy::Inf(InfRefusal::BadValue(key_of(alloc)?));
+    assert!(rt;
+        is_refused_so(
+            alloc,
+            bad,
+            "source-refused f%20g key units.0.colour BadValue\n"
+        )?
+    );
+    Ok(())
+}
+
+#[test]
+fn a_refused_unit_is_named(rt: HostRuntime) -> Result<(), Fail> {
+    let alloc = rt.alloc();
+    let nameless = SourceWhy::Inf(InfRefusal::MissingId(999_999));
+    assert!(rt;
+        is_refused_so(
+            alloc,
+            nameless,
+            "source-refused f%20g key units.999999.id MissingId\n"
+        )?
+    );
+    let id = Text::from_str(alloc, "a")?;
+    let version = Version::parse(alloc, b"1.2")?;
+    let twice = SourceWhy::Inf(InfRefusal::Duplicate(UnitName { id, version }));
+    assert!(rt; is_refused_so(alloc, twice, "source-refused f%20g key a/1.2.0 Duplicate\n")?);
     Ok(())
 }
 

@@ -1,5 +1,6 @@
 use Rattle.std.proofs.Common.{◌≡◌}
 use Rattle.folder_core.specs.Cause.{Rose}
+use Rattle.director_words.specs.declared.status.Status.{Status}
 use Rattle.director_core.specs.Answer.{IsAsked}
 use Rattle.folder_core.specs.Step.{OnTold}
 use Rattle.director_core.proofs.Endings.{stopped_uncommitted, failed_committed}
@@ -23,7 +24,7 @@ pub returns-clause-leaves : goal.returns-clause-leaves
 returns-clause-leaves g c =
     let asked : Type 0 = IsAsked c.args.words.now in
     stopped_stays (g.F.Folder.told c.args.folder.now) (g.F.Folder.told c.decide.new.folder) (g.T.Tree.told c.args.source.now) c.args.words.now
-    (asked → ⊥) asked (asked × Rose (g.F.Folder.faults c.args.folder.now) (g.F.Folder.faults c.decide.new.folder)) (asked × Rose (g.T.Tree.faults c.args.source.now) (g.T.Tree.faults c.decide.new.source)) (λ word. asked)
+    (asked → ⊥) (asked × Rose (g.F.Folder.faults c.args.folder.now) (g.F.Folder.faults c.decide.new.folder)) (asked × Rose (g.T.Tree.faults c.args.source.now) (g.T.Tree.faults c.decide.new.source)) (λ (s : Status). asked)
     (Rose (g.K.Sink.faults c.args.out.now) (g.K.Sink.faults c.refuse-in-Err.new.out)) c.in-Err.status c.refuse-in-Err.result
     c.in-Err.ensures.refused c.refuse-in-Err.ensures.ends c.in-Err.ensures.stays
 
@@ -31,18 +32,18 @@ pub returns-clause-prints : goal.returns-clause-prints
 returns-clause-prints g c =
     let asked : Type 0 = IsAsked c.args.words.now in
     stopped_printed (g.F.Folder.told c.args.folder.now) (g.T.Tree.told c.args.source.now) (g.K.Sink.told c.args.out.now) (g.K.Sink.told c.refuse-in-Err.new.out) c.args.words.now
-    (asked → ⊥) asked (asked × Rose (g.F.Folder.faults c.args.folder.now) (g.F.Folder.faults c.decide.new.folder)) (asked × Rose (g.T.Tree.faults c.args.source.now) (g.T.Tree.faults c.decide.new.source)) (λ word. asked)
+    (asked → ⊥) (asked × Rose (g.F.Folder.faults c.args.folder.now) (g.F.Folder.faults c.decide.new.folder)) (asked × Rose (g.T.Tree.faults c.args.source.now) (g.T.Tree.faults c.decide.new.source)) (λ (s : Status). asked)
     (Rose (g.K.Sink.faults c.args.out.now) (g.K.Sink.faults c.refuse-in-Err.new.out)) c.in-Err.status c.refuse-in-Err.result
     c.in-Err.ensures.refused c.refuse-in-Err.ensures.ends c.in-Err.ensures.answer c.refuse-in-Err.ensures.prints
 
 pub returns-in-Ok-perform-clause-only : goal.returns-in-Ok-perform-clause-only
 returns-in-Ok-perform-clause-only g c =
-    done_only (g.F.Folder.told c.args.folder.now) (g.T.Tree.told c.args.source.now) c.args.words.now c.in-Ok.plan.profile c.in-Ok.plan.name c.in-Ok.ensures.found
+    done_only (g.F.Folder.told c.args.folder.now) (g.T.Tree.told c.args.source.now) c.args.words.now c.in-Ok.plan.profile c.in-Ok.plan.unit c.in-Ok.ensures.found
 
 pub returns-in-Ok-clause-prints : goal.returns-in-Ok-clause-prints
 returns-in-Ok-clause-prints g c =
     failed_printed (g.F.Folder.told c.args.folder.now) (g.T.Tree.told c.args.source.now) (g.K.Sink.told c.args.out.now) (g.K.Sink.told c.perform.new.out) (g.K.Sink.told c.refuse.new.out) c.args.words.now
-    c.in-Ok.plan.profile c.in-Ok.plan.name
+    c.in-Ok.plan.profile c.in-Ok.plan.unit
     (Rose (g.F.Folder.faults c.decide.new.folder) (g.F.Folder.faults c.perform.new.folder)) (Rose (g.K.Sink.faults c.args.out.now) (g.K.Sink.faults c.perform.new.out))
     (Rose (g.K.Sink.faults c.perform.new.out) (g.K.Sink.faults c.refuse.new.out)) c.in-Err-perform.status c.refuse.result
     c.in-Err-perform.ensures.failed c.refuse.ensures.ends c.in-Ok.ensures.found c.in-Err-perform.ensures.prints c.refuse.ensures.prints
@@ -51,7 +52,7 @@ pub returns-clause-durable : goal.returns-clause-durable
 returns-clause-durable g c =
     let asked : Type 0 = IsAsked c.args.words.now in
     stopped_uncommitted
-    (asked → ⊥) asked (asked × Rose (g.F.Folder.faults c.args.folder.now) (g.F.Folder.faults c.decide.new.folder)) (asked × Rose (g.T.Tree.faults c.args.source.now) (g.T.Tree.faults c.decide.new.source)) (λ word. asked)
+    (asked → ⊥) (asked × Rose (g.F.Folder.faults c.args.folder.now) (g.F.Folder.faults c.decide.new.folder)) (asked × Rose (g.T.Tree.faults c.args.source.now) (g.T.Tree.faults c.decide.new.source)) (λ (s : Status). asked)
     (Rose (g.K.Sink.faults c.args.out.now) (g.K.Sink.faults c.refuse-in-Err.new.out)) (OnTold (g.F.Folder.told c.decide.new.folder) (λ t. t.synced ≡ t.now)) c.in-Err.status c.refuse-in-Err.result
     c.in-Err.ensures.refused c.refuse-in-Err.ensures.ends
 

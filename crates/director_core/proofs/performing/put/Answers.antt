@@ -9,15 +9,15 @@ use Rattle.director_core.proofs.performing.put.Goals as goal
 pub lay-requires-clause-can_lay : goal.lay-requires-clause-can_lay
 lay-requires-clause-can_lay g c =
     let P : List Touch → Type 0 = λ touches. OnTold (g.F.Folder.told c.args.folder.now) (λ s. CanLay touches s.now) in
-    subst P (sym c.in_ok-touches.ensures) (can_lay_first (g.F.Folder.told c.args.folder.now) c.args.plan.now.profile c.args.plan.now.name (formed_now (g.F.Folder.told c.args.folder.now) (g.met.F.Folder.image_now c.args.folder.now)) c.requires.bare)
+    subst P (sym c.in_ok-touches.ensures) (can_lay_first (g.F.Folder.told c.args.folder.now) c.args.plan.now.profile c.args.plan.now.unit (formed_now (g.F.Folder.told c.args.folder.now) (g.met.F.Folder.image_now c.args.folder.now)) c.requires.bare)
 
 pub lay-requires-clause-nodes : goal.lay-requires-clause-nodes
 lay-requires-clause-nodes g c =
-    subst AreNodes (sym c.in_ok-touches.ensures) (first_nodes c.args.plan.now.profile c.args.plan.now.name c.requires.profile c.requires.name)
+    subst AreNodes (sym c.in_ok-touches.ensures) (first_nodes c.args.plan.now.profile c.args.plan.now.unit c.requires.ready.fits)
 
 pub returns-in-Ok-sync-clause-leaves : goal.returns-in-Ok-sync-clause-leaves
 returns-in-Ok-sync-clause-leaves g c =
-    put_leaves (g.F.Folder.told c.args.folder.now) (g.F.Folder.told c.lay.new.folder) (g.F.Folder.told c.sync.new.self) c.in_ok-touches.touches c.args.plan.now.profile c.args.plan.now.name
+    put_leaves (g.F.Folder.told c.args.folder.now) (g.F.Folder.told c.lay.new.folder) (g.F.Folder.told c.sync.new.self) c.in_ok-touches.touches c.args.plan.now.profile c.args.plan.now.unit
     c.in_ok-touches.ensures (formed_now (g.F.Folder.told c.args.folder.now) (g.met.F.Folder.image_now c.args.folder.now)) c.requires.bare c.in-Ok.ensures.ok c.in-Ok-sync.ensures.stays
 
 pub returns-in-Ok-sync-clause-synced : goal.returns-in-Ok-sync-clause-synced

@@ -30,7 +30,7 @@ use Rattle.director_core.specs.Source.{◌>>=◌, Gathered, counted, described, 
 use Rattle.director_core.specs.SourceStop.{StopsReading}
 use Rattle.director_core.proofs.Steps.{on_told_weaker, on_told_both}
 
-rose_sooner : (before between now : ℕ) → before ≤ between → Rose between now → Rose before now
+pub rose_sooner : (before between now : ℕ) → before ≤ between → Rose between now → Rose before now
 rose_sooner before between now le rose = ⊎_elim (λ lt. inl (omega arith)) (λ last. inr last) rose
 
 abbrev IsCause : Type 1

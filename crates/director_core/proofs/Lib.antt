@@ -3,6 +3,7 @@ pub mod Decisions
 pub mod Endings
 pub mod Distinct
 pub mod Folders
+pub mod GatherSteps
 pub mod Gatherings
 pub mod LookUps
 pub mod Maps

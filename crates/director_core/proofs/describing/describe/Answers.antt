@@ -18,7 +18,7 @@ returns-in-Err-BadEscape-clause-refused c = λ read reads.
     let P : Result (List Pair) PropsFault → Type 0 = λ r. PropsGives (λ (pairs : List Pair). pairs) r (pairs_of bytes) in
     let refused : pairs_of bytes ≡ Err c.in-Err-BadEscape.line = subst P (c.in-Err-BadEscape.is ∙ ap Err c.in-Err-BadEscape.field-0-is) c.read.ensures.exact in
     let copied = c.in_ok-folder-in-Err-BadEscape.ensures ∙ c.text.ensures.value in
-    described_line read c.args.folder.now bytes c.in-Err-BadEscape.line refused ∙ ap (λ (f : List ℕ). Err (SourceRefused f (Line c.in-Err-BadEscape.line))) (sym copied)
+    rw c.in-Err-BadEscape.field-0-is (described_line read c.args.folder.now bytes c.in-Err-BadEscape.line refused ∙ ap (λ (f : List ℕ). Err (SourceRefused f (Line c.in-Err-BadEscape.line))) (sym copied))
 
 pub returns-in-Ok-units_of-clause-found : goal.returns-in-Ok-units_of-clause-found
 returns-in-Ok-units_of-clause-found c = λ read reads.
@@ -33,6 +33,6 @@ returns-clause-refused c =
     let bytes = c.args.bytes.now in
     let folder = c.bytes.ensures.value ∙ c.text-2.ensures.value in
     let P : Status → Type 0 = StopsReading (λ s. Describes c.args.folder.now bytes (Err s)) ⊥ in
-    subst P (sym c.in_ok-refusal_status.ensures)
+    subst P (sym c.in_ok-refusal_status-in-Err.ensures)
     (refusal_stops c.args.folder.now bytes pairs c.in-Ok.ensures.exact c.in-Err.refusal
     (λ read reads. let Q : List ℕ → Type 0 = λ f. Gives (λ (units : List Unit). units) (Err c.in-Err.refusal) (units_of read f pairs) in subst Q folder (c.in-Err.ensures.exact read reads)))

@@ -1,14 +1,11 @@
 -- What was gathered of a source, folder by folder.
-use Rattle.std.proofs.Common.{◌≡◌, ◌<◌, ◌≤◌, ◌⊎◌, inl, inr, ⊎_elim, ℕ, ◌+◌, ◌||◌, nat_le, nat_lt, Bool, true, false, List, [], ◌∷◌, ◌++◌, length, drop, get_or, Contains, Option, Some, None, Result, Ok, Err, IfOk, IfErr, refl, sym, ap, ◌∙◌, subst, arith}
-use Rattle.std.specs.Prelude.{codes}
+use Rattle.std.proofs.Common.{◌≡◌, ◌<◌, ◌≤◌, inl, inr, ⊎_elim, ℕ, ◌+◌, ◌||◌, nat_le, nat_lt, Bool, true, false, List, [], ◌∷◌, ◌++◌, length, drop, get_or, Option, Some, None, Result, Ok, Err, refl, sym, ap, ◌∙◌, arith}
 use Rattle.std.specs.Option.{IsSomeAnd}
 use Rattle.std.proofs.lemmas.Bool.Decides.{nat_tests}
 use Rattle.std.proofs.lemmas.List.{drop_more, drop_all}
 use Rattle.props_reader.specs.PairsOf.{Pair, pairs_of}
 use Rattle.folder_core.specs.Cause.{Rose}
-use Rattle.folder_core.specs.Name.{AreRising, AreThose}
-use Rattle.folder_core.specs.Step.{OnTold}
-use Rattle.folder_core.specs.Tree.{Files, HasBelow}
+use Rattle.folder_core.specs.Tree.{Files}
 use Rattle.folder_core.specs.declared.node.After.TheVariants.{Unchanged, Recover, Either}
 use Rattle.unit_model.specs.declared.name.UnitName.{UnitName}
 use Rattle.unit_model.specs.declared.unit.Unit.{Unit}
@@ -20,15 +17,13 @@ use Rattle.inf_reader.specs.NameKeys.{is_among}
 use Rattle.inf_reader.specs.UnitsOf.{same_name, has_name, units_of}
 use Rattle.inf_reader.proofs.NameLemmas.{HasNames-more, same_name-is}
 use Rattle.inf_reader.specs.Readings.{Readings, ReadsAll}
-use Rattle.inf_reader.proofs.ReadingLemmas.{readings, readings_all}
 use Rattle.director_words.specs.Status.{CanPrint}
 use Rattle.director_words.specs.declared.limit.LimitName.TheVariants.{Units, InfBytes}
 use Rattle.director_words.specs.declared.source_why.SourceWhy.TheVariants.{Line}
 use Rattle.director_words.specs.declared.status.Status.{Status}
 use Rattle.director_words.specs.declared.status.Status.TheVariants.{Done, NotBuilt, Usage, SourceRefused, Unknown, FolderFault, SourceFault, SinkFault, Limit, NoMemory}
-use Rattle.director_core.specs.Source.{◌>>=◌, Gathered, counted, described, added, with_description, with_found, gathered, nothing_gathered, source_units, description_of, on_line, on_key, refusal_status, SourceGives, AreFolders, IsChild}
+use Rattle.director_core.specs.Source.{◌>>=◌, Gathered, counted, described, added, with_description, with_found, gathered, description_of, on_line, on_key, refusal_status}
 use Rattle.director_core.specs.SourceStop.{StopsReading}
-use Rattle.director_core.proofs.Steps.{on_told_weaker, on_told_both}
 
 pub rose_sooner : (before between now : ℕ) → before ≤ between → Rose between now → Rose before now
 rose_sooner before between now le rose = ⊎_elim (λ lt. inl (omega arith)) (λ last. inr last) rose

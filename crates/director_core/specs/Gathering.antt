@@ -1,5 +1,5 @@
 -- What was read of some folders, as the code keeps it. Clauses of private functions alone cite this.
-use Rattle.std.specs.Prelude.{◌≡◌, ◌≤◌, All, List, ℕ}
+use Rattle.std.specs.Prelude.{◌≡◌, ◌≤◌, All}
 use Rattle.unit_model.specs.declared.name.UnitName.{UnitName}
 use Rattle.inf_reader.specs.InForm.{IsUnitInForm}
 use Rattle.inf_reader.specs.NameKeys.{is_among}

@@ -9,7 +9,7 @@ use Rattle.director_words.specs.declared.source_why.SourceWhy.TheVariants.{Line}
 use Rattle.director_words.specs.declared.status.Status.{Status}
 use Rattle.director_words.specs.declared.status.Status.TheVariants.{SourceRefused}
 use Rattle.director_core.specs.SourceStop.{StopsReading}
-use Rattle.director_core.proofs.Gatherings.{Describes, described_ok, described_line, refusal_stops, refusal_printable}
+use Rattle.director_core.proofs.Gatherings.{Describes, described_ok, described_line, refusal_stops}
 use Rattle.director_core.proofs.describing.describe.Goals as goal
 
 pub returns-in-Err-BadEscape-clause-refused : goal.returns-in-Err-BadEscape-clause-refused

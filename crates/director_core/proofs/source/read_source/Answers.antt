@@ -1,4 +1,4 @@
-use Rattle.std.proofs.Common.{◌≤◌, ◌∙◌, arith}
+use Rattle.std.proofs.Common.{◌∙◌, arith}
 use Rattle.std.proofs.lemmas.Result.{err_from_is_err_and}
 use Rattle.director_core.specs.Gathering.{gathered_in}
 use Rattle.director_core.proofs.GatherSteps.{folders_known, source_stops, folder_read, source_read}

@@ -45,7 +45,12 @@ impl Gathering {
     }
 
     /// Adds the units of a folder's description. After an `Err` it is of no use.
-    pub(crate) fn describe(&mut self, alloc: Global, folder: &Name, bytes: &[u8]) -> Result<(), Status>
+    pub(crate) fn describe(
+        &mut self,
+        alloc: Global,
+        folder: &Name,
+        bytes: &[u8],
+    ) -> Result<(), Status>
         requires { IsGathering self.old }
         ensures is { OnOk result (IsGathering self.new) }
         ensures found { OnOk result ((read : Readings) → ReadsAll read

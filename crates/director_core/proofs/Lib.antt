@@ -6,8 +6,10 @@ pub mod Folders
 pub mod GatherSteps
 pub mod Gatherings
 pub mod LookUps
+pub mod LookUpSteps
 pub mod Maps
 pub mod Names
 pub mod Roots
+pub mod RunSteps
 pub mod Steps
 pub mod Texts

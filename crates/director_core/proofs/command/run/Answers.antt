@@ -5,6 +5,7 @@ use Rattle.director_core.specs.Answer.{IsAsked}
 use Rattle.folder_core.specs.Step.{OnTold}
 use Rattle.director_core.proofs.Endings.{stopped_uncommitted, failed_committed}
 use Rattle.director_core.proofs.Commands.{stopped_answer, stopped_only, stopped_stays, stopped_printed, done_only, failed_printed}
+use Rattle.director_core.proofs.RunSteps.{failed_stays, stopped_causes}
 use Rattle.director_core.proofs.command.run.Goals as goal
 
 pub perform-requires-clause-bare : goal.perform-requires-clause-bare
@@ -62,3 +63,19 @@ returns-in-Ok-clause-durable g c =
     (Rose (g.F.Folder.faults c.decide.new.folder) (g.F.Folder.faults c.perform.new.folder)) (Rose (g.K.Sink.faults c.args.out.now) (g.K.Sink.faults c.perform.new.out))
     (Rose (g.K.Sink.faults c.perform.new.out) (g.K.Sink.faults c.refuse.new.out)) (OnTold (g.F.Folder.told c.perform.new.folder) (λ t. t.synced ≡ t.now)) c.in-Err-perform.status c.refuse.result
     c.in-Err-perform.ensures.failed c.refuse.ensures.ends c.in-Err-perform.ensures.synced
+
+pub returns-in-Ok-clause-leaves : goal.returns-in-Ok-clause-leaves
+returns-in-Ok-clause-leaves g c =
+    failed_stays (g.F.Folder.told c.args.folder.now) (g.F.Folder.told c.decide.new.folder) (g.F.Folder.told c.perform.new.folder) (g.T.Tree.told c.args.source.now) c.args.words.now
+    c.in-Ok.plan.profile c.in-Ok.plan.unit
+    (Rose (g.F.Folder.faults c.decide.new.folder) (g.F.Folder.faults c.perform.new.folder)) (Rose (g.K.Sink.faults c.args.out.now) (g.K.Sink.faults c.perform.new.out))
+    (Rose (g.K.Sink.faults c.perform.new.out) (g.K.Sink.faults c.refuse.new.out)) c.in-Err-perform.status c.refuse.result
+    c.in-Err-perform.ensures.failed c.refuse.ensures.ends c.in-Ok.ensures.found c.in-Ok.ensures.stays c.in-Err-perform.ensures.leaves
+
+pub returns-clause-causes : goal.returns-clause-causes
+returns-clause-causes g c =
+    let asked : Type 0 = IsAsked c.args.words.now in
+    stopped_causes asked
+    (Rose (g.F.Folder.faults c.args.folder.now) (g.F.Folder.faults c.decide.new.folder)) (Rose (g.T.Tree.faults c.args.source.now) (g.T.Tree.faults c.decide.new.source))
+    (Rose (g.K.Sink.faults c.args.out.now) (g.K.Sink.faults c.refuse-in-Err.new.out)) (λ (s : Status). asked) c.in-Err.status c.refuse-in-Err.result
+    c.in-Err.ensures.refused c.refuse-in-Err.ensures.ends

@@ -1,18 +1,25 @@
-use Rattle.std.proofs.Common.{Err}
+use Rattle.std.proofs.Common.{◌≡◌, Err}
 use Rattle.std.proofs.lemmas.Result.{err_from_is_err_and}
 use Rattle.director_words.specs.declared.status.Status.{Status}
+use Rattle.director_words.specs.declared.status.Status.TheVariants.{NotBuilt, Unknown}
 use Rattle.folder_core.specs.Cause.{Rose}
 use Rattle.folder_core.specs.Step.{OnTold}
-use Rattle.director_core.specs.Answer.{IsAsked}
+use Rattle.director_core.specs.Answer.{IsAsked, HasChild}
+use Rattle.director_core.specs.Found.{FindsNone}
+use Rattle.director_core.specs.Planned.{IsUnplanned}
 use Rattle.director_core.specs.Source.{SourceGives}
-use Rattle.director_core.proofs.Decisions.{still_bare, stops_weaker, reading_stops, folder_answer, source_answer, named_answer, planned_answer, chosen, installed}
+use Rattle.director_core.proofs.Decisions.{still_bare, reading_stops, folder_answer, source_answer, named_answer, planned_answer, chosen, installed}
+use Rattle.director_core.proofs.RunSteps.{folder_stopped, source_stopped, stage_stopped}
 use Rattle.director_core.proofs.decision.decide.Goals as goal
 
 pub returns-in_err-check_bare-clause-refused : goal.returns-in_err-check_bare-clause-refused
 returns-in_err-check_bare-clause-refused g c =
     let p = err_from_is_err_and c.from_residual-in_err-check_bare.result c.from_residual-in_err-check_bare.ensures.1 in
     let asked : IsAsked c.args.words.now = (c.in_ok-asked.asked.profile, c.in_ok-asked.asked.word, c.in_ok-asked.ensures.found) in
-    rw (p.1, p.2) (stops_weaker _ _ _ _ _ _ _ (λ (s : Status). IsAsked c.args.words.now) (λ x. absurd x) (λ rose. (asked, rose)) (λ x. absurd x) (λ s x. asked) c.in_err-check_bare.field-0.0 c.in_err-check_bare.ensures.refused)
+    let F : Type 0 = Rose (g.F.Folder.faults c.args.folder.now) (g.F.Folder.faults c.check_bare.new.folder) in
+    let S : Type 0 = Rose (g.T.Tree.faults c.args.source.now) (g.T.Tree.faults c.args.source.now) in
+    let G : Status → Type 0 = λ s. (s ≡ NotBuilt) × OnTold (g.F.Folder.told c.args.folder.now) (λ t. HasChild t.now) in
+    rw (p.1, p.2) (folder_stopped (IsAsked c.args.words.now) F S G c.in_err-check_bare.field-0.0 asked c.in_err-check_bare.ensures.refused)
 
 pub returns-in_err-check_bare-clause-answer : goal.returns-in_err-check_bare-clause-answer
 returns-in_err-check_bare-clause-answer g c =
@@ -24,7 +31,10 @@ pub returns-in_err-units-clause-refused : goal.returns-in_err-units-clause-refus
 returns-in_err-units-clause-refused g c =
     let p = err_from_is_err_and c.from_residual-in_err-units.result c.from_residual-in_err-units.ensures.1 in
     let asked : IsAsked c.args.words.now = (c.in_ok-asked.asked.profile, c.in_ok-asked.asked.word, c.in_ok-asked.ensures.found) in
-    rw (p.1, p.2) (stops_weaker _ _ _ _ _ _ _ (λ (s : Status). IsAsked c.args.words.now) (λ x. absurd x) (λ x. absurd x) (λ rose. (asked, rose)) (λ s x. asked) c.in_err-units.field-0.0 (reading_stops (λ (x : Status). OnTold (g.T.Tree.told c.args.source.now) (λ files. SourceGives files (Err x))) (Rose (g.T.Tree.faults c.args.source.now) (g.T.Tree.faults c.read_source.new.source)) c.in_err-units.field-0.0 c.in_err-units.ensures.refused))
+    let F : Type 0 = Rose (g.F.Folder.faults c.args.folder.now) (g.F.Folder.faults c.check_bare.new.folder) in
+    let S : Type 0 = Rose (g.T.Tree.faults c.args.source.now) (g.T.Tree.faults c.read_source.new.source) in
+    let G : Status → Type 0 = λ s. OnTold (g.T.Tree.told c.args.source.now) (λ files. SourceGives files (Err s)) in
+    rw (p.1, p.2) (source_stopped (IsAsked c.args.words.now) F S G c.in_err-units.field-0.0 asked (reading_stops G S c.in_err-units.field-0.0 c.in_err-units.ensures.refused))
 
 pub returns-in_err-units-clause-answer : goal.returns-in_err-units-clause-answer
 returns-in_err-units-clause-answer g c =
@@ -36,7 +46,10 @@ pub returns-in_err-unit-clause-refused : goal.returns-in_err-unit-clause-refused
 returns-in_err-unit-clause-refused g c =
     let p = err_from_is_err_and c.from_residual-in_err-unit.result c.from_residual-in_err-unit.ensures.1 in
     let asked : IsAsked c.args.words.now = (c.in_ok-asked.asked.profile, c.in_ok-asked.asked.word, c.in_ok-asked.ensures.found) in
-    rw (p.1, p.2) (stops_weaker _ _ _ _ _ _ _ (λ (s : Status). IsAsked c.args.words.now) (λ x. absurd x) (λ x. absurd x) (λ x. absurd x) (λ s x. asked) c.in_err-unit.field-0.0 c.in_err-unit.ensures.refused)
+    let F : Type 0 = Rose (g.F.Folder.faults c.args.folder.now) (g.F.Folder.faults c.check_bare.new.folder) in
+    let S : Type 0 = Rose (g.T.Tree.faults c.args.source.now) (g.T.Tree.faults c.read_source.new.source) in
+    let G : Status → Type 0 = λ s. (s ≡ Unknown c.in_ok-asked.asked.word) × FindsNone c.in_ok-asked.asked.word c.in_ok-units.units in
+    rw (p.1, p.2) (stage_stopped (IsAsked c.args.words.now) F S G c.in_err-unit.field-0.0 asked c.in_err-unit.ensures.refused)
 
 pub returns-in_err-unit-clause-answer : goal.returns-in_err-unit-clause-answer
 returns-in_err-unit-clause-answer g c =
@@ -47,7 +60,9 @@ pub returns-in_err-plan-clause-refused : goal.returns-in_err-plan-clause-refused
 returns-in_err-plan-clause-refused g c =
     let p = err_from_is_err_and c.from_residual-in_err-plan.result c.from_residual-in_err-plan.ensures.1 in
     let asked : IsAsked c.args.words.now = (c.in_ok-asked.asked.profile, c.in_ok-asked.asked.word, c.in_ok-asked.ensures.found) in
-    rw (p.1, p.2) (stops_weaker _ _ _ _ _ _ _ (λ (s : Status). IsAsked c.args.words.now) (λ x. absurd x) (λ x. absurd x) (λ x. absurd x) (λ s x. asked) c.in_err-plan.field-0.0 c.in_err-plan.ensures.refused)
+    let F : Type 0 = Rose (g.F.Folder.faults c.args.folder.now) (g.F.Folder.faults c.check_bare.new.folder) in
+    let S : Type 0 = Rose (g.T.Tree.faults c.args.source.now) (g.T.Tree.faults c.read_source.new.source) in
+    rw (p.1, p.2) (stage_stopped (IsAsked c.args.words.now) F S (IsUnplanned c.in_ok-asked.asked.profile c.in_ok-unit.unit) c.in_err-plan.field-0.0 asked c.in_err-plan.ensures.refused)
 
 pub returns-in_err-plan-clause-answer : goal.returns-in_err-plan-clause-answer
 returns-in_err-plan-clause-answer g c =

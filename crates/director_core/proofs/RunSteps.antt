@@ -1,0 +1,68 @@
+-- What a command leaves where its plan could not be performed to its end, and why it was told so.
+use Rattle.std.proofs.Common.{◌≡◌, ℕ, ◌⊎◌, ⊎_elim, List, Option, Some, None, sym, subst}
+use Rattle.folder_core.specs.Folder.{Told, Map}
+use Rattle.folder_core.specs.Step.{OnTold, Step}
+use Rattle.folder_core.specs.Tree.{Files}
+use Rattle.folder_core.specs.declared.node.After.TheVariants.{Unchanged, Recover, Either}
+use Rattle.unit_model.specs.declared.unit.Unit.{Unit}
+use Rattle.director_words.specs.declared.status.Status.{Status}
+use Rattle.director_words.specs.declared.status.Status.TheVariants.{Done, NotBuilt, Usage, SourceRefused, Unknown, FolderFault, SourceFault, SinkFault, Limit, NoMemory}
+use Rattle.director_core.specs.Answer.{Installs, Leaves}
+use Rattle.director_core.specs.Causes.{HasCauses}
+use Rattle.director_core.specs.Performs.{Fails, LeavesFailed}
+use Rattle.director_core.specs.Refuses.{Ends, EndsOrFails, EndsWithMemory}
+use Rattle.director_core.specs.Stops.{Stops}
+use Rattle.director_core.proofs.Decisions.{stops_weaker}
+use Rattle.director_core.proofs.Endings.{failed_leaves}
+
+-- the folder is told before the decision, after it and after the plan
+pub failed_stays : (a c d : Option Told) (b : Option Files) (words : List (List ℕ)) (profile : List ℕ) (unit : Unit) (F K failed : Type 0) (s r : Status) → Fails F K s → Ends s r failed
+    → OnTold a (λ t. OnTold b (λ files. Installs words t.now files profile unit))
+    → Step a c (λ t u. u.now ≡ t.now)
+    → Step c d (λ t u. LeavesFailed profile unit t.now s u.now)
+    → Step a d (λ t u. OnTold b (λ files. Leaves words t.now files r u.now))
+failed_stays None None None b words profile unit F K failed s r h e found same left = tt
+failed_stays None None (Some v) b words profile unit F K failed s r h e found same left = absurd left
+failed_stays None (Some u) d b words profile unit F K failed s r h e found same left = absurd same
+failed_stays (Some t) None d b words profile unit F K failed s r h e found same left = absurd same
+failed_stays (Some t) (Some u) None b words profile unit F K failed s r h e found same left = absurd left
+failed_stays (Some t) (Some u) (Some v) None words profile unit F K failed s r h e found same left = tt
+failed_stays (Some t) (Some u) (Some v) (Some files) words profile unit F K failed s r h e found same left =
+    let P : Map → Type 0 = λ m. LeavesFailed profile unit m s v.now in
+    failed_leaves words t.now files profile unit F K failed s r v.now found h e (subst P same left)
+
+-- ---- why
+
+-- a status that has no cause of its own
+ended_shortly : (F S K : Type 0) (s r : Status) → HasCauses F S K s → EndsOrFails s r K → HasCauses F S K r
+ended_shortly F S K s r own e = ⊎_elim (λ p. subst (HasCauses F S K) (sym p) own) (λ p. subst (HasCauses F S K) (sym p.0) p.1) e
+
+ended_at_length : (F S K : Type 0) (s r : Status) → HasCauses F S K s → EndsWithMemory s r K → HasCauses F S K r
+ended_at_length F S K s r own e = ⊎_elim (λ q. ended_shortly F S K s r own q) (λ p. subst (HasCauses F S K) (sym p) tt) e
+
+pub stopped_causes : (asked F S K : Type 0) (G : Status → Type 0) (s r : Status) → Stops (asked → ⊥) (asked × F) (asked × S) G s → Ends s r K → HasCauses F S K r
+stopped_causes asked F S K G Done r h e = absurd h
+stopped_causes asked F S K G NotBuilt r h e = ended_shortly F S K NotBuilt r tt e
+stopped_causes asked F S K G Usage r h e = ended_shortly F S K Usage r tt e
+stopped_causes asked F S K G (SourceRefused folder why) r h e = ended_at_length F S K (SourceRefused folder why) r tt e
+stopped_causes asked F S K G (Unknown word) r h e = ended_at_length F S K (Unknown word) r tt e
+stopped_causes asked F S K G (Limit what most) r h e = ended_at_length F S K (Limit what most) r tt e
+stopped_causes asked F S K G (FolderFault Unchanged) r h e = subst (HasCauses F S K) (sym e) h.1
+stopped_causes asked F S K G (FolderFault Recover) r h e = absurd h
+stopped_causes asked F S K G (FolderFault Either) r h e = absurd h
+stopped_causes asked F S K G SourceFault r h e = ended_shortly F S K SourceFault r h.1 e
+stopped_causes asked F S K G (SinkFault committed) r h e = absurd h
+stopped_causes asked F S K G (NoMemory Unchanged) r h e = subst (HasCauses F S K) (sym e) tt
+stopped_causes asked F S K G (NoMemory Recover) r h e = absurd h
+stopped_causes asked F S K G (NoMemory Either) r h e = absurd h
+
+-- ---- the stages of a decision: the words asked for an install
+
+pub folder_stopped : (asked F S : Type 0) (G : Status → Type 0) (s : Status) → asked → Stops ⊥ F ⊥ G s → Stops (asked → ⊥) (asked × F) (asked × S) (λ _. asked) s
+folder_stopped asked F S G s is h = stops_weaker ⊥ F ⊥ G (asked → ⊥) (asked × F) (asked × S) (λ _. asked) (λ x. absurd x) (λ rose. (is, rose)) (λ x. absurd x) (λ _ _. is) s h
+
+pub source_stopped : (asked F S : Type 0) (G : Status → Type 0) (s : Status) → asked → Stops ⊥ ⊥ S G s → Stops (asked → ⊥) (asked × F) (asked × S) (λ _. asked) s
+source_stopped asked F S G s is h = stops_weaker ⊥ ⊥ S G (asked → ⊥) (asked × F) (asked × S) (λ _. asked) (λ x. absurd x) (λ x. absurd x) (λ rose. (is, rose)) (λ _ _. is) s h
+
+pub stage_stopped : (asked F S : Type 0) (G : Status → Type 0) (s : Status) → asked → Stops ⊥ ⊥ ⊥ G s → Stops (asked → ⊥) (asked × F) (asked × S) (λ _. asked) s
+stage_stopped asked F S G s is h = stops_weaker ⊥ ⊥ ⊥ G (asked → ⊥) (asked × F) (asked × S) (λ _. asked) (λ x. absurd x) (λ x. absurd x) (λ x. absurd x) (λ _ _. is) s h

@@ -1,5 +1,5 @@
 -- Steps of looking units up: what is said of a reference, and of what it points to.
-use Rattle.std.proofs.Common.{◌≡◌, ℕ, Bool, true, false, IsTrue, IfSome, List, [], ◌∷◌, ◌++◌, length, get_or, take, ◌+◌, ◌<◌, Option, Some, None, option_map, refl, sym, ap, ◌∙◌, subst}
+use Rattle.std.proofs.Common.{◌≡◌, ℕ, IfSome, List, [], ◌∷◌, ◌++◌, length, get_or, take, ◌+◌, ◌<◌, Option, Some, None, option_map, sym, subst}
 use Rattle.std.proofs.lemmas.List.{take_more}
 use Rattle.unit_model.specs.declared.unit.Unit.{Unit}
 use Rattle.director_words.specs.declared.root.Root.{Root}

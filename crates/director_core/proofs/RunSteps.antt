@@ -1,5 +1,5 @@
 -- What a command leaves where its plan could not be performed to its end, and why it was told so.
-use Rattle.std.proofs.Common.{◌≡◌, ℕ, ◌⊎◌, ⊎_elim, List, Option, Some, None, sym, subst}
+use Rattle.std.proofs.Common.{◌≡◌, ℕ, ⊎_elim, List, Option, Some, None, sym, subst}
 use Rattle.folder_core.specs.Folder.{Told, Map}
 use Rattle.folder_core.specs.Step.{OnTold, Step}
 use Rattle.folder_core.specs.Tree.{Files}

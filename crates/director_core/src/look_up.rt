@@ -75,12 +75,7 @@ fn greatest<'a>(id: &Text, units: &'a [Unit], env: &Env) -> Option<&'a Unit>
 }
 
 /// The unit, where it is a candidate above the best one so far, or else that.
-fn better<'a>(
-    id: &Text,
-    unit: &'a Unit,
-    env: &Env,
-    best: Option<&'a Unit>,
-) -> Option<&'a Unit>
+fn better<'a>(id: &Text, unit: &'a Unit, env: &Env, best: Option<&'a Unit>) -> Option<&'a Unit>
     requires { env.now ≡ [] }
     ensures { (units : Items Unit) → IsBest id.now units (option_map (λ u. u.now) best.entry)
         → IsBest id.now (units ++ unit.now ∷ []) (option_map (λ u. u.now) result) }

@@ -167,7 +167,11 @@ fn descriptions_are_refused(rt: HostRuntime) -> Result<(), Fail> {
             3,
             "source-refused f key units.0.colour UnknownKey\n",
         ),
-        ("units.0.id=\\uD800", 3, "source-refused f line 1 BadEscape\n"),
+        (
+            "units.0.id=\\uD800",
+            3,
+            "source-refused f line 1 BadEscape\n",
+        ),
         (
             "units.0.id=a",
             3,
@@ -185,7 +189,13 @@ fn descriptions_are_refused(rt: HostRuntime) -> Result<(), Fail> {
         ),
     ] {
         assert!(rt;
-            is_refused(rt.alloc(), &[("f/p2.inf", text)], "install -p ide a", code, printed)?,
+            is_refused(
+                rt.alloc(),
+                &[("f/p2.inf", text)],
+                "install -p ide a",
+                code,
+                printed
+            )?,
             "of {text}"
         );
     }
@@ -195,22 +205,14 @@ fn descriptions_are_refused(rt: HostRuntime) -> Result<(), Fail> {
 /// The first refusal is that of the first folder, in the order of their names.
 #[test]
 fn the_first_folder_is_refused_first(rt: HostRuntime) -> Result<(), Fail> {
-    let files = [
-        ("g/p2.inf", "colour=red"),
-        ("f/META-INF/p2.inf", "size=1"),
-    ];
+    let files = [("g/p2.inf", "colour=red"), ("f/META-INF/p2.inf", "size=1")];
     let printed = "source-refused f key size UnknownKey\n";
     assert!(rt; is_refused(rt.alloc(), &files, "install -p ide a", 3, printed)?);
     Ok(())
 }
 
 /// Whether a command over an empty folder comes to its end and prints this.
-fn is_done(
-    alloc: Global,
-    files: &[(&str, &str)],
-    line: &str,
-    printed: &str,
-) -> Result<bool, Fail> {
+fn is_done(alloc: Global, files: &[(&str, &str)], line: &str, printed: &str) -> Result<bool, Fail> {
     let mut folder = MemoryFolder::new(alloc);
     let (status, out) = command(alloc, &mut folder, files, line)?;
     Ok(status.code() == 0 && out.bytes() == printed.as_bytes())
@@ -227,14 +229,13 @@ const VERSIONS: [(&str, &str); 3] = [
 
 #[test]
 fn an_id_alone_is_its_greatest_version(rt: HostRuntime) -> Result<(), Fail> {
-    for (word, name) in [
-        ("a", "a/1.10.0"),
-        ("a/1.9", "a/1.9.0"),
-        ("h", "h/2.0.0"),
-    ] {
+    for (word, name) in [("a", "a/1.10.0"), ("a/1.9", "a/1.9.0"), ("h", "h/2.0.0")] {
         let line = format!(in rt.alloc(); "install -p ide {word}")?;
         let printed = format!(in rt.alloc(); "plan ide 1\nadd {name}\ndone ide 1\n")?;
-        assert!(rt; is_done(rt.alloc(), &VERSIONS, line.as_str(), printed.as_str())?, "of {word}");
+        assert!(rt;
+            is_done(rt.alloc(), &VERSIONS, line.as_str(), printed.as_str())?,
+            "of {word}"
+        );
     }
     Ok(())
 }

@@ -10,7 +10,7 @@ returns-then-is_empty-clause-bare g c =
 
 pub returns-clause-refused : goal.returns-clause-refused
 returns-clause-refused g c = (
-    refl,
-    child_of_root (g.F.Folder.told c.args.folder.now) c.root.result c.in-Ok.names c.root.ensures c.in-Ok.ensures.kids
-    (λ e. false≢true (sym c.if-is_empty.false ∙ c.is_empty.ensures.1 e)),
+  refl,
+  child_of_root (g.F.Folder.told c.args.folder.now) c.root.result c.in-Ok.names c.root.ensures c.in-Ok.ensures.kids
+      (λ e. false≢true (sym c.if-is_empty.false ∙ c.is_empty.ensures.1 e)),
 )

@@ -1,6 +1,5 @@
-use Rattle.std.proofs.Common.{◌≡◌, sym, ◌∙◌, option_map}
+use Rattle.std.proofs.Common.{sym, ◌∙◌, option_map}
 use Rattle.std.proofs.lemmas.Bool.{false≢true}
-use Rattle.unit_model.specs.declared.unit.Unit.{Unit}
 use Rattle.director_core.specs.LookUp.{IsAbove}
 use Rattle.director_core.proofs.LookUps.{best_taken, best_passed, best_kept}
 use Rattle.director_core.proofs.LookUpSteps.{some_mapped, mapped_some}

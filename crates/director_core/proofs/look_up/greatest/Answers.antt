@@ -1,4 +1,4 @@
-use Rattle.std.proofs.Common.{◌≡◌, List, take, subst, option_map, take_all}
+use Rattle.std.proofs.Common.{List, take, subst, option_map, take_all}
 use Rattle.unit_model.specs.declared.unit.Unit.{Unit}
 use Rattle.director_core.specs.LookUp.{IsBest}
 use Rattle.director_core.proofs.LookUpSteps.{best_more}

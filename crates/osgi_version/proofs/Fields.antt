@@ -102,3 +102,10 @@ pub decoded_other : {V E : Type 0} (items : V → List ℕ) (spelling : List ℕ
     → IfOk decoded (λ v. (text : List ℕ) → IsUtf8 text → field text ≡ spelling → text ≡ items v)
 decoded_other items spelling (Ok v) other is = λ text utf8 spelled. sym (field_read text spelling utf8 spelled other) ∙ sym is
 decoded_other items spelling (Err e) other is = tt
+
+-- The bytes that a field may spell are no text, or are the text of another field.
+pub no_field : (bytes spelling : List ℕ) → ((text : List ℕ) → IsUtf8 text → field text ≡ spelling → text ≡ bytes) → field bytes ≢ spelling → IsNoField spelling
+no_field bytes spelling only other text utf8 is = other (ap field (sym (only text utf8 is)) ∙ is)
+
+pub no_text : (bytes spelling : List ℕ) → ((text : List ℕ) → IsUtf8 text → field text ≡ spelling → text ≡ bytes) → ¬ (IsUtf8 bytes) → IsNoField spelling
+no_text bytes spelling only bad text utf8 is = bad (subst IsUtf8 (only text utf8 is) utf8)

@@ -1,0 +1,5 @@
+pub mod Fixed
+pub mod Kept
+pub mod Open
+pub mod Overlay
+pub mod Restored

@@ -1,0 +1,6 @@
+//! The undo journal of a folder: a change that is finished or abandoned as a whole, and recovery after a crash.
+#![tactic(auto)]
+
+mod change;
+
+pub use change::{Change, Receipt};

@@ -33,20 +33,20 @@ pub record Shows (entries : List Entry) (old m : Map) : Type 0 where
   pub rest : (path : List (List ℕ)) → IsOutside path → ¬ (Covers entries path) → m path ≡ old path
   pub later : (number : ℕ) → length entries + 1 < number → number ≤ 1000001 → m (mark_path number) ≡ None
 
-no_file : (bytes : List ℕ) (stands : Option Node) → stands ≡ None → ¬ (IsFileOf bytes stands)
+pub no_file : (bytes : List ℕ) (stands : Option Node) → stands ≡ None → ¬ (IsFileOf bytes stands)
 no_file bytes stands none is = let e = is.1 in cc
 
-length_push : (entries : List Entry) (entry : Entry) → length (entries ++ entry ∷ []) ≡ length entries + 1
+pub length_push : (entries : List Entry) (entry : Entry) → length (entries ++ entry ∷ []) ≡ length entries + 1
 length_push entries entry = length-append entries (entry ∷ [])
 
-at_front : (entries : List Entry) (entry : Entry) (place : ℕ) → place < length entries → entry_at (entries ++ entry ∷ []) place ≡ entry_at entries place
+pub at_front : (entries : List Entry) (entry : Entry) (place : ℕ) → place < length entries → entry_at (entries ++ entry ∷ []) place ≡ entry_at entries place
 at_front entries entry place below = get_or_append_left entries (entry ∷ []) no_entry place below
 
-at_end : (entries : List Entry) (entry : Entry) → entry_at (entries ++ entry ∷ []) (length entries) ≡ entry
+pub at_end : (entries : List Entry) (entry : Entry) → entry_at (entries ++ entry ∷ []) (length entries) ≡ entry
 at_end entries entry = get_or-append_seam entries entry [] no_entry
 
 -- what holds at each place of a list, and of one more, holds at each place of the longer list
-each_push : (P : ℕ → Entry → Type 0) (entries : List Entry) (entry : Entry)
+pub each_push : (P : ℕ → Entry → Type 0) (entries : List Entry) (entry : Entry)
     → ((place : ℕ) → place < length entries → P place (entry_at entries place)) → P (length entries) entry
     → (place : ℕ) → place < length (entries ++ entry ∷ []) → P place (entry_at (entries ++ entry ∷ []) place)
 each_push P entries entry each one place below =
@@ -114,7 +114,7 @@ file_goes_on s t path bytes goes fixed = (fixed.0, goes _ fixed.1)
 text_goes_on : (s t : Told) (number : ℕ) (entry : Entry) → ((stands : Option Node) → IsFixed s (entry_path number) stands → IsFixed t (entry_path number) stands) → IsTextFixed s number entry → IsTextFixed t number entry
 text_goes_on s t number entry goes fixed = record { is_entry = fixed.is_entry; file = file_goes_on s t (entry_path number) (entry_text entry.path entry.before) goes fixed.file }
 
-inside_uncovered : (entries : List Entry) (old : Map) (rest : List (List ℕ)) → Serves entries old → ¬ (Covers entries (codes ".p2" ∷ rest))
+pub inside_uncovered : (entries : List Entry) (old : Map) (rest : List (List ℕ)) → Serves entries old → ¬ (Covers entries (codes ".p2" ∷ rest))
 inside_uncovered entries old rest serves covers = serves.outside (codes ".p2" ∷ rest) covers rest refl
 
 -- The entries go on being kept, where all that is fixed stays so but at their paths and at the places of the next entry.

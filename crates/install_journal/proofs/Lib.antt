@@ -3,6 +3,9 @@ pub mod Counting
 pub mod Fixing
 pub mod Keepings
 pub mod Keeps
+pub mod Names
+pub mod Opens
 pub mod Overlays
+pub mod Runs
 pub mod Undoings
 pub mod Unique

@@ -15,3 +15,23 @@ pub record IsOpen (change : Change) (s : Told) : Type 0 where
   pub undoes : Undoes entries change.left s.now old
   pub all_left : change.ready ≡ true → change.left ≡ change.kept
   pub free : change.ready ≡ true → IsFree entries s
+
+-- the change after a call on it failed, found no memory or met damage
+abbrev pub spoiled : Change → Change
+spoiled change = record change { failed = true }
+
+-- Such a call was made on it.
+abbrev pub IsSpoiled : Change → Type 0
+IsSpoiled change = change.failed ≡ true
+
+-- No touch of it was refused, and nothing of it was put back.
+abbrev pub IsReady : Change → Type 0
+IsReady change = change.ready ≡ true
+
+-- how many entries it has kept
+abbrev pub entries_of : Change → ℕ
+entries_of change = change.kept
+
+-- how many of them aren't put back
+abbrev pub left_of : Change → ℕ
+left_of change = change.left

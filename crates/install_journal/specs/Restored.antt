@@ -1,8 +1,9 @@
 -- What a recovery makes of a map that a crash left.
-use Rattle.std.specs.Prelude.{◌≡◌, ℕ, ◌+◌, ◌<◌, ◌≤◌, List, [], length, None}
-use Rattle.folder_core.specs.Crash.{IsImage}
+use Rattle.std.specs.Prelude.{◌≡◌, ℕ, ◌+◌, ◌<◌, ◌≤◌, List, [], length, Option, None}
+use Rattle.folder_core.specs.Crash.{IsImage, LeavesOnly}
 use Rattle.folder_core.specs.Folder.{Map, Told, IsFormed}
 use Rattle.folder_core.specs.Path.{IsBelow}
+use Rattle.folder_core.specs.Step.{OnTold}
 use Rattle.backup_store.specs.Held.{Counts, HoldsEntry, IsOpen as OpensGate}
 use Rattle.backup_store.specs.Places.{IsOutside}
 use Rattle.backup_store.specs.declared.entry.Entry.{Entry}
@@ -38,6 +39,10 @@ pub record IsRestored (m restored : Map) : Type 0 where
 -- What the first map restores to, the second does too.
 abbrev pub RestoresLike : Map → Map → Type 0
 RestoresLike first second = (restored : Map) → IsRestored first restored → IsRestored second restored
+
+-- What a crash at any moment between leaves restores to what the map at the earlier moment restores to.
+abbrev pub RestoresSame : {D : Type 0} → (D → Option Told) → (D → ℕ → Map → Type 0) → D → D → Type 0
+RestoresSame told left_since old new = OnTold (told old) (λ s. LeavesOnly told left_since old new (RestoresLike s.now))
 
 -- Every image restores to this map, the gate is closed in each, and this is the installation now.
 pub record IsSettled (installation : Map) (s : Told) : Type 0 where

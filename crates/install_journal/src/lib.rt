@@ -2,5 +2,8 @@
 #![tactic(auto)]
 
 mod change;
+mod gate;
+mod places;
 
 pub use change::{Change, Receipt};
+pub use gate::{Gate, read_gate};

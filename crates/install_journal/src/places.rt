@@ -1,0 +1,32 @@
+ghost use Rattle.std.specs.Prelude.{◌≡◌, ◌++◌, ◌∷◌, ◌<◌, [], length, IfOk};
+ghost use Rattle.folder_core.specs.Name.{IsName};
+ghost use Rattle.folder_core.specs.Node.{entries_path};
+ghost use Rattle.backup_store.specs.Places.{gate_path};
+
+use folder_core::{Name, Path};
+use osgi_version::{NoMemory, Text};
+use std::alloc::Global;
+
+/// Where the gate stands: `.p2/undo`.
+pub(crate) fn gate_path(alloc: Global) -> Result<Path, NoMemory>
+    ensures { IfOk result (λ path. path ≡ gate_path) }
+{
+    let journal = below(alloc, Path::root(alloc), ".p2")?;
+    below(alloc, journal, "undo")
+}
+
+/// The path with this name at its end.
+fn below(alloc: Global, mut path: Path, name: &str) -> Result<Path, NoMemory>
+    requires name { IsName name.now }
+    requires short { length path < 64 }
+    ensures { IfOk result (λ longer. longer ≡ path ++ name.now ∷ []) }
+{
+    let Some(name) = Name::new(&Text::from_str(alloc, name)?)? else {
+        unreachable!()
+    };
+    if path.push(name)? {
+        Ok(path)
+    } else {
+        unreachable!()
+    }
+}

@@ -1,4 +1,5 @@
 pub mod Apart
+pub mod Closings
 pub mod Counting
 pub mod Fixing
 pub mod Keepings

@@ -1,3 +1,4 @@
+pub mod Closing
 pub mod Fixed
 pub mod Gate
 pub mod Kept

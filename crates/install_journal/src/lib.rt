@@ -2,8 +2,11 @@
 #![tactic(auto)]
 
 mod change;
+mod closing;
+mod fault;
 mod gate;
 mod places;
 
 pub use change::{Change, Receipt};
+pub use fault::{FinishFault, JournalFault, TouchFault};
 pub use gate::{Gate, read_gate};

@@ -10,6 +10,7 @@ use Rattle.folder_core.proofs.Maps.{parent-push}
 use Rattle.backup_store.specs.Held.{IsFileOf, gate_text, IsOpen as OpensGate}
 use Rattle.backup_store.specs.Places.{gate_path}
 use Rattle.install_journal.specs.Closing.{IsSynced, IsButGate, TouchesGate, IsClosed}
+use Rattle.install_journal.proofs.Opens.{image_back}
 use Rattle.install_journal.proofs.Runs.{on_told, at_told, on_each, on_both, step_on, step_each, step_both, step_then, step_from, Ran, start_at, one}
 
 none_or_some : (o : Option Node) → ((x : Node) → o ≡ Some x → ⊥) → o ≡ None
@@ -104,6 +105,20 @@ module _ {D : Type 0} (told : D → Option Told) (left_since : D → ℕ → Map
       → Step (told old) (told new) (λ s t. Elapses s.moment t.moment (left_since old) (left_since new) (IsImage t))
       → OnTold (told old) (λ s. LeavesOnly told left_since old new (IsButGate s.now))
   set_leaves new path is touches time = on_told (told old) _ (λ s e. (set_ran new path s is e touches time).leaves)
+
+  -- where no memory was found, the images are those before
+  pub none_leaves : (new : D)
+      → Step (told old) (told new) (λ s t. t.synced ≡ s.synced)
+      → Step (told old) (told new) (λ s t. (t.now ≡ s.now) × (t.touched ≡ s.touched))
+      → Step (told old) (told new) (λ s t. Elapses s.moment t.moment (left_since old) (left_since new) (IsImage t))
+      → OnTold (told old) (λ s. LeavesOnly told left_since old new (IsImage s))
+  none_leaves new synced_same same time = on_told (told old) _ (λ s e.
+      (one told left_since old old new (λ t. t ≡ s) (λ t. (t.synced ≡ s.synced) × (t.touched ≡ s.touched)) (IsImage s) (λ t u. (u.synced ≡ t.synced) × ((u.now ≡ t.now) × (u.touched ≡ t.touched)))
+      (start_at told left_since old s (IsImage s) only e (λ m image. image))
+      (step_both (told old) (told new) (λ t u. u.synced ≡ t.synced) (λ t u. (u.now ≡ t.now) × (u.touched ≡ t.touched)) synced_same same)
+      time
+      (λ t u at call. (call.0 ∙ ap (λ (x : Told). x.synced) at, call.1.1 ∙ ap (λ (x : Told). x.touched) at))
+      (λ u m at image. image_back s u m at.0 at.1 image)).leaves)
 
   pub sync_leaves : (mid new : D) (path : List (List ℕ)) → path ≡ gate_path
       → Step (told old) (told mid) (Touches path)

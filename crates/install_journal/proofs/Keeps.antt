@@ -87,7 +87,7 @@ shows_old entries old m most serves formed shows next = elim (is_file_or_not mar
 file_image : (s : Told) (m : Map) (path : List (List ℕ)) (bytes : List ℕ) → IsImage s m → IsFixedFile s path bytes → IsFileOf bytes (m path)
 file_image s m path bytes image fixed = (fixed.0, fixed_image s m path _ fixed.1 image)
 
-text_image : (s : Told) (m : Map) (number : ℕ) (entry : Entry) → IsImage s m → IsTextFixed s number entry → HoldsEntry m number entry.path entry.before
+pub text_image : (s : Told) (m : Map) (number : ℕ) (entry : Entry) → IsImage s m → IsTextFixed s number entry → HoldsEntry m number entry.path entry.before
 text_image s m number entry image fixed = record { entry = fixed.is_entry; file = file_image s m (entry_path number) (entry_text entry.path entry.before) image fixed.file }
 
 pub kept_shows : (entries : List Entry) (old : Map) (s : Told) (m : Map) → AreKept entries old s → IsImage s m → Shows entries old m

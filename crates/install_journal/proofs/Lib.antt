@@ -1,6 +1,7 @@
 pub mod Apart
 pub mod Closings
 pub mod Counting
+pub mod Finishings
 pub mod Fixing
 pub mod Keepings
 pub mod Keeps

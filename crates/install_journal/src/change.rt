@@ -82,6 +82,10 @@ impl Change {
     pub fn leave(self)
         requires { IsSpoiled self }
     {
+        self.spend();
+    }
+
+    pub(crate) fn spend(self) {
         let Change {
             kept: _,
             left: _,

@@ -1,6 +1,6 @@
 ghost use Rattle.std.specs.Prelude.{◌≡◌, OnOk, OnErr, IsErrOf};
 ghost use Rattle.folder_core.specs.Cause.{HasCause};
-ghost use Rattle.folder_core.specs.Crash.{LeavesOnly};
+ghost use Rattle.folder_core.specs.Crash.{IsImage, LeavesOnly};
 ghost use Rattle.folder_core.specs.Folder.{SameBut};
 ghost use Rattle.folder_core.specs.Step.{OnTold, Step};
 ghost use Rattle.backup_store.specs.Held.{IsOpen as OpensGate};
@@ -16,6 +16,7 @@ pub(crate) fn close<F: Folder>(folder: &mut F, gate: &Path) -> Result<(), Folder
     requires open { OnTold (F.told folder.old) (λ s. OpensGate s.now) }
     ensures closed { OnOk result (Step (F.told folder.old) (F.told folder.new) IsClosed) }
     ensures no_memory { IsErrOf result FolderError.NoMemory → Step (F.told folder.old) (F.told folder.new) (λ s t. (t.now ≡ s.now) × IsSynced t) }
+    ensures unchanged { IsErrOf result FolderError.NoMemory → OnTold (F.told folder.old) (λ s. LeavesOnly F.told F.left_since folder.old folder.new (IsImage s)) }
     ensures elsewhere { Step (F.told folder.old) (F.told folder.new) (λ s t. SameBut gate_path s.now t.now) }
     ensures touches { OnErr result (Step (F.told folder.old) (F.told folder.new) TouchesGate) }
     ensures leaves { OnTold (F.told folder.old) (λ s. LeavesOnly F.told F.left_since folder.old folder.new (IsButGate s.now)) }

@@ -4,6 +4,7 @@
 mod change;
 mod closing;
 mod fault;
+mod finishing;
 mod gate;
 mod places;
 

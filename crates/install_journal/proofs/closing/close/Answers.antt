@@ -1,10 +1,10 @@
-use Rattle.std.proofs.Common.{◌∙◌, ap, List, ℕ, subst, sym}
+use Rattle.std.proofs.Common.{◌∙◌, ap, List, ℕ, subst, sym, rules}
 use Rattle.std.specs.Result.{OnErr}
 use Rattle.folder_core.specs.Folder.{CanSet}
 use Rattle.folder_core.specs.Crash.{IsImage}
 use Rattle.backup_store.specs.Held.{IsOpen as OpensGate}
 use Rattle.install_journal.specs.Closing.{TouchesGate}
-use Rattle.install_journal.proofs.Closings.{can_close, on_err, gate_touched, gate_touched_on, set_leaves, sync_leaves}
+use Rattle.install_journal.proofs.Closings.{can_close, on_err, gate_touched, gate_touched_on, none_leaves, set_leaves, sync_leaves}
 use Rattle.install_journal.proofs.Runs.{on_each, on_both, step_then, step_both}
 use Rattle.install_journal.proofs.closing.close.Goals as goal
 
@@ -38,3 +38,8 @@ pub returns-in_err-sync-clause-touches : goal.returns-in_err-sync-clause-touches
 returns-in_err-sync-clause-touches g c =
     on_err _ _ (gate_touched_on g.F.Folder.told g.F.Folder.left_since c.args.folder.now c.requires.synced (g.met.F.Folder.only_now c.args.folder.now)
     c.set.new.self c.sync.new.self c.args.gate.now c.requires.gate c.set.ensures.crash c.in_err-sync.ensures.failed c.in_err-sync.ensures.untouched)
+
+pub returns-in_err-set-clause-unchanged : goal.returns-in_err-set-clause-unchanged
+returns-in_err-set-clause-unchanged g c = λ is.
+    none_leaves g.F.Folder.told g.F.Folder.left_since c.args.folder.now c.requires.synced (g.met.F.Folder.only_now c.args.folder.now)
+    c.set.new.self c.set.ensures.unsynced (c.in_err-set.ensures.no_memory (search rules)) c.set.ensures.time

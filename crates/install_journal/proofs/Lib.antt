@@ -9,5 +9,6 @@ pub mod Names
 pub mod Opens
 pub mod Overlays
 pub mod Runs
+pub mod Touchings
 pub mod Undoings
 pub mod Unique

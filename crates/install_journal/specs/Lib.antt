@@ -6,3 +6,4 @@ pub mod Looks
 pub mod Open
 pub mod Overlay
 pub mod Restored
+pub mod Touching

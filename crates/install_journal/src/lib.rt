@@ -7,6 +7,7 @@ mod fault;
 mod finishing;
 mod gate;
 mod places;
+mod touching;
 
 pub use change::{Change, Receipt};
 pub use fault::{FinishFault, JournalFault, TouchFault};

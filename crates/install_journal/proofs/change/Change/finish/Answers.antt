@@ -74,13 +74,13 @@ returns-in-Err-NoMemory-clause-open g c =
     on_each (g.F.Folder.told c.close.new.folder) (IsOpen c.args.self) (IsOpen (spoiled c.args.self)) (λ s. open_spoiled c.args.self s)
     (end_open g.F.Folder.told g.F.Folder.left_since c.args.self c.args.folder.now c.requires.«open» (g.met.F.Folder.image_now c.args.folder.now) (g.met.F.Folder.only_now c.args.folder.now)
     c.sync.new.self c.sync.ensures.stays c.in-Ok-sync.ensures.synced c.in-Ok-sync.ensures.settled c.sync.ensures.time
-    c.close.new.folder (c.in-Err-NoMemory.ensures.no_memory c.in-Err-NoMemory.field-0-is) (g.met.F.Folder.image_now c.sync.new.self))
+    c.close.new.folder (c.in-Err-NoMemory.ensures.no_memory (search (rules, c.in-Err-NoMemory.field-0-is))) (g.met.F.Folder.image_now c.sync.new.self))
 
 pub returns-in-Err-NoMemory-clause-restores : goal.returns-in-Err-NoMemory-clause-restores
 returns-in-Err-NoMemory-clause-restores g c =
     end_restores g.F.Folder.told g.F.Folder.left_since c.args.self c.args.folder.now c.requires.«open» (g.met.F.Folder.image_now c.args.folder.now) (g.met.F.Folder.only_now c.args.folder.now)
     c.sync.new.self c.sync.ensures.stays c.in-Ok-sync.ensures.synced c.in-Ok-sync.ensures.settled c.sync.ensures.time
-    c.close.new.folder (λ s t. SameBut gate_path s.now t.now) c.close.ensures.elsewhere (c.in-Err-NoMemory.ensures.unchanged c.in-Err-NoMemory.field-0-is)
+    c.close.new.folder (λ s t. SameBut gate_path s.now t.now) c.close.ensures.elsewhere (c.in-Err-NoMemory.ensures.unchanged (search (rules, c.in-Err-NoMemory.field-0-is)))
 
 pub returns-clause-leaves : goal.returns-clause-leaves
 returns-clause-leaves g c =

@@ -9,6 +9,7 @@ use Rattle.folder_core.specs.declared.node.Node.TheVariants.{Dir}
 use Rattle.folder_core.proofs.Maps.{parent_apart}
 use Rattle.folder_core.specs.Path.{parent}
 use Rattle.backup_store.specs.Entry.{IsEntry}
+use Rattle.backup_store.specs.Held.{HoldsEntry}
 use Rattle.backup_store.specs.Keeping.{HasRoom, HasNoMark, SameButEntry, HasCome, LeavesEntry, IsKept, IsCounted}
 use Rattle.backup_store.specs.Places.{IsOutside, entry_path, mark_path}
 use Rattle.backup_store.specs.declared.entry.Entry.{Entry}
@@ -27,7 +28,7 @@ use Rattle.install_journal.proofs.Keeps.{kept_shows, kept_restores, kept_goes_on
 use Rattle.install_journal.proofs.Opens.{open_restores}
 use Rattle.install_journal.proofs.Overlays.{covers_back}
 use Rattle.install_journal.proofs.Runs.{on_told, on_each, on_both, at_told, step_on, step_both, step_each, step_from, step_then, images_on, Ran, start_at, one, more, weaken}
-use Rattle.install_journal.proofs.Undoings.{undoes_push, undoes_same}
+use Rattle.install_journal.proofs.Undoings.{can_same, undoes_push, undoes_same}
 
 same_outside_entry : (k : ℕ) (a b : Map) → SameButEntry k a b → SameOutside b a
 same_outside_entry k a b same path outside = same path (λ e. outside _ e) (λ e. outside _ e)
@@ -124,3 +125,109 @@ module _ (change : Change) (path : List (List ℕ)) (ready : change.ready ≡ tr
               all_left = λ _. ap (λ (n : ℕ). n + 1) all;
               free = λ _. free_goes_on pushed is.began.old t u one_kept one_free goes;
             }
+
+counted_now : (a b : Option Told) (R : Told → Map → Type 0) (C : Told → Told → Type 0) → OnTold a (λ s. AllImages (R s) b) → OnTold b (λ t. IsImage t t.now) → Step a b C → Step a b (λ s t. C s t × R s t.now)
+counted_now None None R C each image call = tt
+counted_now None (Some t) R C each image call = absurd call
+counted_now (Some s) None R C each image call = absurd call
+counted_now (Some s) (Some t) R C each image call = (call, each t.now image)
+
+holds_still : (k : ℕ) (path at : List (List ℕ)) (before : Option Node) (m n : Map) → IsOutside path → SameBut path m n → HoldsEntry m k at before → HoldsEntry n k at before
+holds_still k path at before m n outside but holds = record {
+  entry = holds.entry;
+  file = (holds.file.0, but (entry_path k) (λ e. outside _ (sym e)) ∙ holds.file.1);
+}
+
+module _ {D : Type 0} (told : D → Option Told) (left_since : D → ℕ → Map → Type 0) (change : Change) (path : List (List ℕ)) (ready : change.ready ≡ true) (outside : IsOutside path) (old : D)
+    (began : OnTold (told old) (IsOpen change))
+    (can : OnTold (told old) (λ s. CanSet s.now path))
+    (image : OnTold (told old) (λ s. IsImage s s.now))
+    (only : OnTold (told old) (λ s. (m : Map) → left_since old s.moment m → IsImage s m)) where
+
+  pub touchable : OnTold (told old) (IsTouchable change path)
+  touchable = on_each (told old) (λ s. (IsOpen change s × IsImage s s.now) × CanSet s.now path) (IsTouchable change path)
+      (λ s all. record { began = all.0.0; image = all.0.1; can = all.1 })
+      (on_both (told old) (λ s. IsOpen change s × IsImage s s.now) (λ s. CanSet s.now path) (on_both (told old) (IsOpen change) (λ s. IsImage s s.now) began image) can)
+
+  pub room : OnTold (told old) (λ s. HasRoom s (change.kept + 1))
+  room = on_each (told old) (IsTouchable change path) (λ s. HasRoom s (change.kept + 1)) (λ s is. has_room change path ready outside s is) touchable
+
+  pub no_mark : AllImages (HasNoMark (change.kept + 1)) (told old)
+  no_mark = images_on (told old) (IsTouchable change path) (HasNoMark (change.kept + 1)) touchable (λ s m is img. has_no_mark change path ready outside s is m img)
+
+  module _ (mid : D)
+      (elsewhere : Step (told old) (told mid) (λ s t. SameButEntry (change.kept + 1) s.now t.now))
+      (come : Step (told old) (told mid) (λ s t. HasCome s (change.kept + 1) path t))
+      (leaves : OnTold (told old) (λ s. LeavesOnly told left_since old mid (LeavesEntry s (change.kept + 1) path))) where
+
+    pub failed_open : OnTold (told mid) (IsOpen (record change { ready = false; failed = true }))
+    failed_open = step_on (told old) (told mid) (IsTouchable change path) (IsOpen (record change { ready = false; failed = true }))
+        (λ s t. SameButEntry (change.kept + 1) s.now t.now × HasCome s (change.kept + 1) path t) touchable
+        (step_both (told old) (told mid) (λ s t. SameButEntry (change.kept + 1) s.now t.now) (λ s t. HasCome s (change.kept + 1) path t) elsewhere come)
+        (λ s t is call. not_kept change path ready outside s is t call.0 call.1)
+
+    pub outside_same : Step (told old) (told mid) (λ s t. SameOutside t.now s.now)
+    outside_same = step_each (told old) (told mid) (λ s t. SameButEntry (change.kept + 1) s.now t.now) (λ s t. SameOutside t.now s.now)
+        (λ s t same. same_outside_entry (change.kept + 1) s.now t.now same) elsewhere
+
+    pub elsewhere_same : Step (told old) (told mid) (λ s t. SameOutsideBut path s.now t.now)
+    elsewhere_same = step_each (told old) (told mid) (λ s t. SameButEntry (change.kept + 1) s.now t.now) (λ s t. SameOutsideBut path s.now t.now)
+        (λ s t same place out apart. same_outside_entry (change.kept + 1) s.now t.now same place out) elsewhere
+
+    kept_ran : (s : Told) → told old ≡ Some s → (is : IsTouchable change path s) → (C : Told → Told → Type 0) (N : Told → Type 0)
+        → Step (told old) (told mid) C → ((t : Told) → C s t → N t) → Ran told left_since old mid N (RestoresLike s.now)
+    kept_ran s e is C N call f =
+        let alike : (m : Map) → IsRestored m is.began.old → RestoresLike s.now m = λ m. restores_alike s.now m is.began.old (kept_restores is.began.entries is.began.old s s.now is.began.kept is.image) in
+        more told left_since old old mid (λ t. t ≡ s) N (RestoresLike s.now) C (λ t. LeavesEntry t (change.kept + 1) path)
+        (start_at told left_since old s (RestoresLike s.now) only e (λ m. open_restores change s m is.began is.image))
+        call leaves
+        (λ t u same did. f u (subst (λ (x : Told). C x u) same did))
+        (λ t m same left. alike m (keeps_old change path ready outside s is m (subst (λ (x : Told). LeavesEntry x (change.kept + 1) path m) same left)))
+
+    pub failed_restores : RestoresSame told left_since old mid
+    failed_restores = on_told (told old) _ (λ s e.
+        (kept_ran s e (at_told (told old) s (IsTouchable change path) e touchable) (λ t u. SameButEntry (change.kept + 1) t.now u.now) (λ t. Unit {0}) elsewhere (λ t did. tt)).leaves)
+
+    pub can_still : OnTold (told mid) (λ t. CanSet t.now path)
+    can_still = step_on (told old) (told mid) (λ s. CanSet s.now path) (λ t. CanSet t.now path) (λ s t. SameButEntry (change.kept + 1) s.now t.now) can elsewhere
+        (λ s t may same. can_same s.now t.now path outside (same_outside_entry (change.kept + 1) s.now t.now same) may)
+
+    module _ (less : change.kept < 1000000)
+        (kept : Step (told old) (told mid) (λ s t. IsKept s (change.kept + 1) path t))
+        (counted : OnTold (told old) (λ s. AllImages (IsCounted s (change.kept + 1) path) (told mid)))
+        (mid_image : OnTold (told mid) (λ t. IsImage t t.now))
+        (new : D)
+        (touches : Step (told mid) (told new) (Touches path))
+        (but : Step (told mid) (told new) (λ s t. SameBut path s.now t.now))
+        (time : Step (told mid) (told new) (λ s t. Elapses s.moment t.moment (left_since mid) (left_since new) (IsImage t))) where
+
+      abbrev Kept : Told → Told → Type 0
+      Kept s t = IsKept s (change.kept + 1) path t × IsCounted s (change.kept + 1) path t.now
+
+      abbrev Set : Told → Told → Type 0
+      Set t u = Touches path t u × SameBut path t.now u.now
+
+      was_kept : Step (told old) (told mid) Kept
+      was_kept = counted_now (told old) (told mid) (λ s. IsCounted s (change.kept + 1) path) (λ s t. IsKept s (change.kept + 1) path t) counted mid_image kept
+
+      was_set : Step (told mid) (told new) Set
+      was_set = step_both (told mid) (told new) (Touches path) (λ s t. SameBut path s.now t.now) touches but
+
+      pub set_open : (ready_now failed : Bool) → OnTold (told new) (IsOpen (record { kept = change.kept + 1; left = change.left + 1; ready = ready_now; failed = failed }))
+      set_open ready_now failed = step_on (told old) (told new) (IsTouchable change path) (IsOpen (record { kept = change.kept + 1; left = change.left + 1; ready = ready_now; failed = failed }))
+          (λ s u. (t : Told) × (Kept s t × Set t u)) touchable
+          (step_then (told old) (told mid) (told new) Kept Set (λ s u. (t : Told) × (Kept s t × Set t u)) was_kept was_set (λ s t u p q. (t, (p, q))))
+          (λ s u is run. then_open change path ready outside s is run.0 less run.1.0.0 run.1.0.1.holds.entry u run.1.1.0 run.1.1.1 ready_now failed)
+
+      pub set_restores : RestoresSame told left_since old new
+      set_restores = on_told (told old) _ (λ s e.
+          let is : IsTouchable change path s = at_told (told old) s (IsTouchable change path) e touchable in
+          (one told left_since old mid new (λ t. Kept s t) (λ u. AreKept (is.began.entries ++ entry_of s.now path ∷ []) is.began.old u) (RestoresLike s.now) Set
+          (kept_ran s e is Kept (λ t. Kept s t) was_kept (λ t did. did))
+          was_set time
+          (λ t u did set. then_kept change path ready outside s is t less did.0 did.1.holds.entry u set.0 set.1)
+          (λ u m held img. restores_alike s.now m is.began.old (kept_restores is.began.entries is.began.old s s.now is.began.kept is.image) (kept_restores (is.began.entries ++ entry_of s.now path ∷ []) is.began.old u m held img))).leaves)
+
+      pub set_holds : Step (told old) (told new) (λ s u. HoldsEntry u.now (change.kept + 1) path (s.now path))
+      set_holds = step_then (told old) (told mid) (told new) Kept Set (λ s u. HoldsEntry u.now (change.kept + 1) path (s.now path)) was_kept was_set
+          (λ s t u did set. holds_still (change.kept + 1) path path (s.now path) t.now u.now outside set.1 did.1.holds)

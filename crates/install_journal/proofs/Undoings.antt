@@ -21,7 +21,7 @@ covers_at [] place below = absurd (omega arith)
 covers_at (entry ∷ entries) zero below = inl refl
 covers_at (entry ∷ entries) (suc place) below = inr (covers_at entries place (omega arith))
 
-can_same : (a b : Map) (path : List (List ℕ)) → IsOutside path → SameOutside b a → CanSet a path → CanSet b path
+pub can_same : (a b : Map) (path : List (List ℕ)) → IsOutside path → SameOutside b a → CanSet a path → CanSet b path
 can_same a b path outside same can = record {
   not_root = can.not_root;
   parent = same (parent path) (outside_parent path can.not_root outside) ∙ can.parent;

@@ -24,9 +24,11 @@ spoiled change = record change { failed = true }
 abbrev pub IsSpoiled : Change → Type 0
 IsSpoiled change = change.failed ≡ true
 
--- No touch of it was refused, and nothing of it was put back.
-abbrev pub IsReady : Change → Type 0
-IsReady change = change.ready ≡ true
+-- No touch of it was refused, nothing of it was put back, and it has kept at most a million entries.
+pub record IsReady (change : Change) : Type 0 where
+  pub ready : change.ready ≡ true
+  pub all_left : change.left ≡ change.kept
+  pub most : change.kept ≤ 1000000
 
 -- how many entries it has kept
 abbrev pub entries_of : Change → ℕ

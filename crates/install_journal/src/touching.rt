@@ -41,6 +41,7 @@ impl Change {
 
         ensures number { IfOk result (λ number. number.0 ≡ entries_of self.old + 1) }
         ensures kept { OnOk result (self.new ≡ lengthened self.old) }
+        ensures ready { OnOk result (IsReady self.new) }
         ensures entry { IfOk result (λ number. Step (F.told folder.old) (F.told folder.new) (λ s t. HoldsEntry t.now number.0 path.now (s.now path.now))) }
         ensures sets { OnOk result (Step (F.told folder.old) (F.told folder.new) (λ s t. SameOutside t.now (set_at s.now path.now (option_copied to.entry)))) }
         ensures elsewhere { Step (F.told folder.old) (F.told folder.new) (λ s t. SameOutsideBut path.now s.now t.now) }
@@ -51,7 +52,7 @@ impl Change {
         ensures restores { RestoresSame F.told F.left_since folder.old folder.new }
         ensures cause { HasCause (F.faults folder.old) (F.faults folder.new) (IsErrOf result TouchFault.Failed) }
     {
-        if self.kept == MOST_ENTRIES {
+        if self.kept >= MOST_ENTRIES {
             self.ready = false;
             return Err(TouchFault::TooManyEntries);
         }
@@ -59,7 +60,8 @@ impl Change {
         match keep(alloc, folder, number, path) {
             Ok(()) => {}
             Err(StoreFault::NoMemory) => return Err(self.refuse(TouchFault::NoMemory)),
-            Err(_) => return Err(self.refuse(TouchFault::Failed)),
+            Err(StoreFault::Failed) => return Err(self.refuse(TouchFault::Failed)),
+            Err(StoreFault::Damaged { .. }) => unreachable!(),
         }
         self.kept += 1;
         self.left += 1;

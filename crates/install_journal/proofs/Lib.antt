@@ -1,4 +1,5 @@
 pub mod Apart
+pub mod Backs
 pub mod Closings
 pub mod Counting
 pub mod Finishings

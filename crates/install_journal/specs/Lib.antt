@@ -7,3 +7,4 @@ pub mod Open
 pub mod Overlay
 pub mod Restored
 pub mod Touching
+pub mod Undoing

@@ -8,6 +8,7 @@ mod finishing;
 mod gate;
 mod places;
 mod touching;
+mod undoing;
 
 pub use change::{Change, Receipt};
 pub use fault::{FinishFault, JournalFault, TouchFault};

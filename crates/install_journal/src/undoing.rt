@@ -1,0 +1,47 @@
+ghost use Rattle.std.specs.Prelude.{◌≡◌, ◌-◌, ◌<◌, ◌≤◌, ⊤, IfErr, OnOk, OnErr, IsErrOf};
+ghost use Rattle.folder_core.specs.Cause.{HasCause};
+ghost use Rattle.folder_core.specs.Step.{OnTold, Step};
+ghost use Rattle.backup_store.specs.Fault.{IfDamaged};
+ghost use Rattle.backup_store.specs.Places.{entry_path};
+ghost use Rattle.backup_store.specs.PuttingBack.{PutsBack};
+ghost use Rattle.install_journal.specs.Open.{IsOpen, left_of};
+ghost use Rattle.install_journal.specs.Restored.{RestoresSame};
+ghost use Rattle.install_journal.specs.Undoing.{PutsBackFrom, IsShortened, shortened};
+
+use crate::change::Change;
+use backup_store::{EntryNumber, StoreFault, put_back};
+use folder_core::Folder;
+use std::alloc::Global;
+
+impl Change {
+    /// Puts the newest entry back that isn't put back yet.
+    pub(crate) fn put_back_newest<F: Folder>(
+        &mut self,
+        alloc: Global,
+        folder: &mut F,
+    ) -> Result<(), StoreFault>
+        requires some { 0 < left_of self.old }
+        requires open { OnTold (F.told folder.old) (IsOpen self.old) }
+        ensures ok { OnOk result (self.new ≡ shortened (left_of self.old - 1) self.old) }
+        ensures err { OnErr result (IsShortened (left_of self.old) self.old self.new) }
+        ensures puts { OnOk result (Step (F.told folder.old) (F.told folder.new) (λ s t. PutsBack (left_of self.old) s.now t.now)) }
+        ensures tells { Step (F.told folder.old) (F.told folder.new) (λ s t. ⊤) }
+        ensures never_damaged { IfErr result (λ fault. IfDamaged fault (λ at. OnTold (F.told folder.old) (λ s. ⊥))) }
+        ensures named { IfErr result (λ fault. IfDamaged fault (λ at. at ≡ entry_path (left_of self.old))) }
+        ensures open { OnTold (F.told folder.new) (IsOpen self.new) }
+        ensures restores { RestoresSame F.told F.left_since folder.old folder.new }
+        ensures cause { HasCause (F.faults folder.old) (F.faults folder.new) (IsErrOf result StoreFault.Failed) }
+    {
+        self.ready = false;
+        match put_back(alloc, folder, EntryNumber(self.left)) {
+            Ok(()) => {
+                self.left -= 1;
+                Ok(())
+            }
+            Err(fault) => {
+                self.failed = true;
+                Err(fault)
+            }
+        }
+    }
+}

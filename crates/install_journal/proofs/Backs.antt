@@ -5,18 +5,21 @@ use Rattle.folder_core.specs.Folder.{Map, Told, CanSet}
 use Rattle.folder_core.specs.Crash.{IsImage, AllImages, Elapses, LeavesOnly}
 use Rattle.folder_core.specs.Step.{OnTold, Step}
 use Rattle.folder_core.proofs.Moments.{images_now, holds_now}
+use Rattle.backup_store.specs.Fault.{IfDamaged}
+use Rattle.backup_store.specs.declared.fault.StoreFault.{StoreFault}
+use Rattle.backup_store.specs.declared.fault.StoreFault.TheVariants.{Failed, Damaged, NoMemory}
 use Rattle.backup_store.specs.Held.{IsDamaged, IsOpen as OpensGate}
 use Rattle.backup_store.specs.PuttingBack.{HasRoomBack, PutsBack, SameButRestored, TouchesRestored}
 use Rattle.install_journal.specs.Closing.{MayBeOpen}
 use Rattle.install_journal.specs.Kept.{AreKept, Undoes}
 use Rattle.install_journal.specs.Open.{IsOpen}
 use Rattle.install_journal.specs.Restored.{IsRestored, RestoresLike, RestoresSame}
-use Rattle.install_journal.specs.Undoing.{shortened}
+use Rattle.install_journal.specs.Undoing.{PutsBackFrom, shortened}
 use Rattle.install_journal.specs.declared.change.Change.{Change}
 use Rattle.install_journal.proofs.Counting.{restores_alike, restores_then}
 use Rattle.install_journal.proofs.Keeps.{kept_shows, kept_restores, kept_goes_on}
 use Rattle.install_journal.proofs.Opens.{open_restores}
-use Rattle.install_journal.proofs.Runs.{on_told, on_each, on_both, at_told, step_on, step_both, step_each, Ran, start_at, one, more}
+use Rattle.install_journal.proofs.Runs.{on_told, on_each, on_both, at_told, step_on, step_both, step_each, step_then, step_same, Ran, start_at, one, more}
 use Rattle.install_journal.proofs.Undoings.{never_damaged, room_back, back_fixed, back_puts, back_fails}
 
 -- a change with entries left, in a folder whose map now is an image
@@ -77,6 +80,11 @@ module _ (change : Change) (some : 0 < change.left) (s : Told) (is : IsBackable 
     all_left = λ no. absurd (let f : ⊥ = cc in f);
     free = λ no. absurd (let f : ⊥ = cc in f);
   }
+
+pub damaged_each : (fault : StoreFault) (P Q : List (List ℕ) → Type 0) → ((at : List (List ℕ)) → P at → Q at) → IfDamaged fault P → IfDamaged fault Q
+damaged_each Failed P Q f holds = tt
+damaged_each (Damaged path) P Q f holds = f path holds
+damaged_each NoMemory P Q f holds = tt
 
 damage_at : (told : Option Told) (P : Told → Type 0) (Q : Told → Type 0) → OnTold told P → OnTold told Q → ((s : Told) → P s → Q s → ⊥) → OnTold told (λ s. ⊥)
 damage_at None P Q p q f = tt
@@ -142,3 +150,31 @@ module _ {D : Type 0} (told : D → Option Told) (left_since : D → ℕ → Map
   open_may_be change d began image = on_each (told d) (λ t. IsOpen change t × IsImage t t.now) MayBeOpen
       (λ t both. (t.now, (both.1, (kept_shows both.0.entries both.0.old t t.now both.0.kept both.1).gate)))
       (on_both (told d) (IsOpen change) (λ t. IsImage t t.now) began image)
+
+-- one entry more is put back
+pub puts_more : (count newest left : ℕ) (before between after : Map) → left + count ≡ newest → PutsBackFrom count newest before between → PutsBack left between after → PutsBackFrom (suc count) newest before after
+puts_more zero newest left before between after is so_far puts =
+    (after, (subst (λ (m : Map). PutsBack newest m after) so_far (subst (λ (i : ℕ). PutsBack i between after) (let e : left ≡ newest = omega (arith, is) in e) puts), refl))
+puts_more (suc count) newest left before between after is so_far puts =
+    (so_far.0, (so_far.1.0, puts_more count (newest - 1) left so_far.0 between after (omega (arith, is)) so_far.1.1 puts))
+
+pub shortened_again : (a b c : Change) (left : ℕ) → b ≡ shortened b.left a → c ≡ shortened left b → c ≡ shortened c.left a
+shortened_again a b c left first second =
+    let same : c ≡ shortened left a = second ∙ ap (λ (x : Change). shortened left x) first in
+    same ∙ ap (λ (n : ℕ). shortened n a) (sym (ap (λ (x : Change). x.left) same))
+
+-- one entry more is put back of those of a change
+pub puts_on : (first mid last : Option Told) (newest left next : ℕ) → left ≤ newest → next + 1 ≡ left
+    → Step first mid (λ s t. PutsBackFrom (newest - left) newest s.now t.now)
+    → Step mid last (λ s t. PutsBack left s.now t.now)
+    → Step first last (λ s t. PutsBackFrom (newest - next) newest s.now t.now)
+puts_on first mid last newest left next most is so_far puts =
+    let count : suc (newest - left) ≡ newest - next = omega arith in
+    step_then first mid last (λ s t. PutsBackFrom (newest - left) newest s.now t.now) (λ s t. PutsBack left s.now t.now) (λ s t. PutsBackFrom (newest - next) newest s.now t.now)
+    so_far puts
+    (λ s t u p q. subst (λ (n : ℕ). PutsBackFrom n newest s.now u.now) count (puts_more (newest - left) newest left s.now t.now u.now (omega arith) p q))
+
+pub puts_none : (told : Option Told) (newest : ℕ) → Step told told (λ s t. PutsBackFrom (newest - newest) newest s.now t.now)
+puts_none told newest =
+    let none : zero ≡ newest - newest = omega arith in
+    step_same told (λ s t. PutsBackFrom (newest - newest) newest s.now t.now) (λ s. subst (λ (n : ℕ). PutsBackFrom n newest s.now s.now) none refl)

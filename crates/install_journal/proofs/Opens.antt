@@ -1,5 +1,5 @@
 -- A change stays open over the calls that are made on it.
-use Rattle.std.proofs.Common.{◌≡◌, ℕ, ◌≤◌, List, Option, Some, None, Contains, refl, sym, ◌∙◌, ap, subst, arith}
+use Rattle.std.proofs.Common.{◌≡◌, ℕ, ◌≤◌, List, Option, Some, None, Contains, false, true, refl, sym, ◌∙◌, ap, subst, arith}
 use Rattle.folder_core.specs.Folder.{Map, Told}
 use Rattle.folder_core.specs.Crash.{IsImage, Elapses, LeavesOnly}
 use Rattle.folder_core.specs.Step.{OnTold, Step}
@@ -18,6 +18,13 @@ use Rattle.install_journal.proofs.Runs.{on_told, on_each, at_told, step_on, step
 pub open_spoiled : (change : Change) (s : Told) → IsOpen change s → IsOpen (spoiled change) s
 open_spoiled change s is = record {
   entries = is.entries; old = is.old; count = is.count; left = is.left; kept = is.kept; undoes = is.undoes; all_left = is.all_left; free = is.free;
+}
+
+pub open_unready : (change : Change) (s : Told) → IsOpen change s → IsOpen (record change { ready = false }) s
+open_unready change s is = record {
+  entries = is.entries; old = is.old; count = is.count; left = is.left; kept = is.kept; undoes = is.undoes;
+  all_left = λ no. absurd (let f : ⊥ = cc in f);
+  free = λ no. absurd (let f : ⊥ = cc in f);
 }
 
 -- what is fixed stays so, and so does the map now

@@ -1,4 +1,4 @@
-use Rattle.install_journal.proofs.Backs.{newest_room, newest_undamaged, newest_done, newest_failed, newest_restores, newest_tells}
+use Rattle.install_journal.proofs.Backs.{damaged_each, newest_room, newest_undamaged, newest_done, newest_failed, newest_restores, newest_tells}
 use Rattle.install_journal.proofs.change.Change.put_back_newest.Goals as goal
 
 pub put_back-requires : goal.put_back-requires
@@ -37,4 +37,4 @@ returns-in-Err-clause-open g c =
 
 pub returns-in-Err-clause-never_damaged : goal.returns-in-Err-clause-never_damaged
 returns-in-Err-clause-never_damaged g c =
-    ?
+    damaged_each c.in-Err.fault _ _ (λ at damaged. newest_undamaged g.F.Folder.told g.F.Folder.left_since c.args.self.now c.requires.some c.args.folder.now c.requires.«open» (g.met.F.Folder.image_now c.args.folder.now) (g.met.F.Folder.only_now c.args.folder.now) damaged) c.in-Err.ensures.damaged

@@ -75,10 +75,10 @@ settled_closed s t u now synced closed =
       closed = shut;
     }
 
-abbrev Synced : Told → Told → Type 0
+abbrev pub Synced : Told → Told → Type 0
 Synced s t = (t.now ≡ s.now) × ((t.synced ≡ s.now) × (t.touched ≡ []))
 
-synced_at : (a b : Option Told) → Step a b (λ s t. t.now ≡ s.now) → Step a b (λ s t. t.synced ≡ s.now) → Step a b (λ s t. t.touched ≡ []) → Step a b Synced
+pub synced_at : (a b : Option Told) → Step a b (λ s t. t.now ≡ s.now) → Step a b (λ s t. t.synced ≡ s.now) → Step a b (λ s t. t.touched ≡ []) → Step a b Synced
 synced_at None None now synced settled = tt
 synced_at None (Some t) now synced settled = absurd now
 synced_at (Some s) None now synced settled = absurd now
@@ -123,7 +123,7 @@ module _ {D : Type 0} (told : D → Option Told) (left_since : D → ℕ → Map
         (on_both (told mid) (IsOpen change) (λ t. IsImage t t.now) mid_open now)
 
     -- the sync leaves the old installation
-    mid_ran : (s : Told) (e : told old ≡ Some s) (here : IsOpen change s) → IsImage s s.now
+    pub mid_ran : (s : Told) (e : told old ≡ Some s) (here : IsOpen change s) → IsImage s s.now
         → Ran told left_since old mid (λ t. AreKept here.entries here.old t × (t.now ≡ s.now)) (RestoresLike s.now)
     mid_ran s e here now = one told left_since old old mid (λ t. t ≡ s) (λ t. AreKept here.entries here.old t × (t.now ≡ s.now)) (RestoresLike s.now) Synced
         (start_at told left_since old s (RestoresLike s.now) only e (λ m. open_restores change s m here now))

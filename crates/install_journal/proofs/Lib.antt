@@ -1,3 +1,4 @@
+pub mod Abandonings
 pub mod Apart
 pub mod Backs
 pub mod Closings

@@ -1,3 +1,4 @@
+pub mod Abandoning
 pub mod Closing
 pub mod Fixed
 pub mod Gate
@@ -5,6 +6,7 @@ pub mod Kept
 pub mod Looks
 pub mod Open
 pub mod Overlay
+pub mod Preparing
 pub mod Restored
 pub mod Touching
 pub mod Undoing

@@ -1,8 +1,10 @@
 //! The undo journal of a folder: a change that is finished or abandoned as a whole, and recovery after a crash.
 #![tactic(auto)]
 
+mod abandoning;
 mod change;
 mod closing;
+mod damage;
 mod fault;
 mod finishing;
 mod gate;

@@ -4,7 +4,7 @@ ghost use Rattle.folder_core.specs.Node.{entries_path};
 ghost use Rattle.backup_store.specs.Places.{gate_path};
 
 use folder_core::{Name, Path};
-use osgi_version::{NoMemory, Text};
+use osgi_version::{NoMemory, Text, Twin};
 use std::alloc::Global;
 
 /// Where the gate stands: `.p2/undo`.
@@ -26,6 +26,19 @@ fn below(alloc: Global, mut path: Path, name: &str) -> Result<Path, NoMemory>
     };
     if path.push(name)? {
         Ok(path)
+    } else {
+        unreachable!()
+    }
+}
+
+/// The path of a child.
+pub(crate) fn child(path: &Path, name: &Name) -> Result<Path, NoMemory>
+    requires { length path.now < 64 }
+    ensures { IfOk result (λ longer. longer ≡ path.now ++ name.now ∷ []) }
+{
+    let mut longer = path.copy()?;
+    if longer.push(name.copy()?)? {
+        Ok(longer)
     } else {
         unreachable!()
     }

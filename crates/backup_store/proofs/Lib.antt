@@ -1,0 +1,12 @@
+pub mod Bools
+pub mod Bytes
+pub mod Fields
+pub mod Fronts
+pub mod KeepingLemmas
+pub mod Moments
+pub mod Names
+pub mod PuttingLemmas
+pub mod Readings
+pub mod SettlingLemmas
+pub mod Texts
+pub mod Unique

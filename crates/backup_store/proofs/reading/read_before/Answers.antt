@@ -1,0 +1,16 @@
+use Rattle.std.proofs.Common.{sym, ◌∙◌, []}
+use Rattle.std.proofs.lemmas.Bool.{both_ways}
+use Rattle.std.proofs.lemmas.Bool.Decides.{Decides-eqb}
+use Rattle.std.proofs.lemmas.Slice.Eq.{slice_eq-Decides}
+use Rattle.backup_store.specs.Parts.{IsNodeBehind, IsNoNodeBehind}
+use Rattle.backup_store.proofs.Fronts.{match_none}
+use Rattle.backup_store.proofs.Readings.{nothing_found, no_before}
+use Rattle.backup_store.proofs.reading.read_before.Goals as goal
+
+pub returns-then-eq : goal.returns-then-eq
+returns-then-eq c = nothing_found c.args.bytes.now ((slice_eq-Decides Decides-eqb _ _ _ c.eq.ensures).0 c.if-eq.true ∙ c.as_slice.ensures)
+
+pub returns-in-None : goal.returns-in-None
+returns-in-None c =
+    no_before c.args.bytes.now (λ is. both_ways _ c.if-eq.false ((slice_eq-Decides Decides-eqb _ _ _ c.eq.ensures).1 (is ∙ sym c.as_slice.ensures)))
+    (match_none (IsNoNodeBehind [] c.args.bytes.now) (IsNodeBehind [] c.args.bytes.now) c.in_ok-node.field-0 c.in-None.is c.in_ok-node.ensures)

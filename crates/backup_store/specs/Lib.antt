@@ -1,0 +1,10 @@
+pub mod Entry
+pub mod EntryText
+pub mod Fault
+pub mod Held
+pub mod Keeping
+pub mod Parts
+pub mod Places
+pub mod PuttingBack
+pub mod Settling
+pub mod Unescaped

@@ -1,0 +1,21 @@
+//! Entries of a journal: what stood at a path before it was changed, kept in a folder so that it can be put back. An entry
+//! counts once its mark is there, which is written after the entry has been synced.
+#![tactic(auto)]
+
+mod entry;
+mod fault;
+mod field;
+mod keeping;
+mod lines;
+mod places;
+mod putting_back;
+mod reading;
+mod settling;
+mod writing;
+
+pub use entry::{Entry, EntryNumber};
+pub use fault::StoreFault;
+pub use keeping::keep;
+pub use putting_back::put_back;
+pub use reading::read_entry;
+pub use writing::write_entry;

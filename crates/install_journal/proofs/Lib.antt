@@ -3,8 +3,10 @@ pub mod Apart
 pub mod Backs
 pub mod Closings
 pub mod Counting
+pub mod Damages
 pub mod Finishings
 pub mod Fixing
+pub mod Firsts
 pub mod Keepings
 pub mod Keeps
 pub mod Names

@@ -37,6 +37,18 @@ pub record IsDamage (m : Map) (path : List (List ℕ)) : Type 0 where
   pub place : ((name : List ℕ) × ((path ≡ journal_path ++ name ∷ []) × ((name ≢ codes "undo") × (name ≢ codes "e"))))
       ⊎ (IsBelow gate_path path ⊎ ((name : List ℕ) × IsBelow (entries_path ++ name ∷ []) path))
 
+-- the paths of one kind of damage
+abbrev pub IsStrayChild : Map → List (List ℕ) → Type 0
+IsStrayChild m path = IsSome (m path) × ((name : List ℕ) × ((path ≡ journal_path ++ name ∷ []) × ((name ≢ codes "undo") × (name ≢ codes "e"))))
+
+abbrev pub IsBelowEntry : Map → List (List ℕ) → Type 0
+IsBelowEntry m path = IsSome (m path) × ((name : List ℕ) × ((next : List ℕ) × (path ≡ entries_path ++ name ∷ next ∷ [])))
+
+-- A path that has P is found, or none has it.
+abbrev pub Finds : (List (List ℕ) → Type 0) → Option (List (List ℕ)) → Type 0
+Finds P None = (path : List (List ℕ)) → ¬ (P path)
+Finds P (Some path) = P path
+
 -- The name of a directory's child, or None where it has none.
 abbrev pub IsChild : Map → List (List ℕ) → Option (List (List ℕ)) → Type 0
 IsChild m path None = (name : List ℕ) → m (path ++ name ∷ []) ≡ None

@@ -1,5 +1,5 @@
 -- What the journal didn't put there.
-use Rattle.std.proofs.Common.{◌≡◌, ◌≢◌, ℕ, zero, suc, ◌+◌, ◌<◌, ◌≤◌, Bool, true, false, List, [], ◌∷◌, ◌++◌, length, get_or, Option, Some, None, Contains, ◌⊎◌, inl, inr, ⊎_elim, refl, sym, ◌∙◌, ap, subst, arith, codes, below_more}
+use Rattle.std.proofs.Common.{◌≡◌, ◌≢◌, ℕ, zero, suc, ◌+◌, ◌<◌, ◌≤◌, Bool, true, false, List, [], ◌∷◌, ◌++◌, length, get_or, Option, Some, None, Contains, ◌⊎◌, inl, inr, ⊎_elim, refl, sym, ◌∙◌, ap, subst, arith, codes, append_assoc}
 use Rattle.std.specs.Prelude.{IsSome, is_some}
 use Rattle.std.proofs.lemmas.Bool.{false≢true}
 use Rattle.std.proofs.lemmas.List.{get_or_default}
@@ -11,7 +11,9 @@ use Rattle.folder_core.specs.Step.{OnTold, Step}
 use Rattle.folder_core.specs.declared.node.Node.{Node}
 use Rattle.folder_core.specs.declared.node.Node.TheVariants.{Dir}
 use Rattle.install_journal.specs.Looks.{Looks, OnlyLooks}
-use Rattle.install_journal.specs.Preparing.{IsChild, IsStrayChild, IsBelowEntry, Finds, journal_path}
+use Rattle.install_journal.specs.Preparing.{IsChild, IsStrayChild, IsBelowEntry, Finds, IsDamage, IsOneOf, journal_path}
+use Rattle.backup_store.specs.Places.{gate_path}
+use Rattle.install_journal.proofs.Closings.{nothing_below_other}
 use Rattle.install_journal.proofs.Firsts.{is_some_dir}
 use Rattle.install_journal.proofs.Opens.{image_back}
 use Rattle.install_journal.proofs.Runs.{on_each, on_both, step_then}
@@ -92,3 +94,86 @@ stray_none told journal names place is image those own all =
     let same : get_or names at.0 [] ≡ name = get_or_default names at.0 [] name at.1 ∙ at.2 in
     ⊎_elim (λ undo. stray.1.1.1.0 (sym same ∙ undo)) (λ e. stray.1.1.1.1 (sym same ∙ e)) (own at.0 (omega (arith, at.1))))
     (on_both told (λ s. IsImage s s.now) (λ s. AreThose (IsKid s.now journal) names) image those)
+
+abbrev Good : (List (List ℕ) → Type 0) → Option (List (List ℕ)) → Type 0
+Good P None = Unit {0}
+Good P (Some path) = P path
+
+one_good : (P : List (List ℕ) → Type 0) (a b r : Option (List (List ℕ))) → IsOneOf a b r → Good P a → Good P b → Good P r
+one_good P None b r one first second = subst (Good P) (sym one) second
+one_good P (Some p) None r one first second = subst (Good P) (sym one) first
+one_good P (Some p) (Some q) r one first second = ⊎_elim (λ is. subst (Good P) (sym is) first) (λ is. subst (Good P) (sym is) second) one
+
+one_none : (a b r : Option (List (List ℕ))) → IsOneOf a b r → r ≡ None → (a ≡ None) × (b ≡ None)
+one_none None b r one none = (refl, sym one ∙ none)
+one_none (Some p) None r one none = absurd (let e = sym one ∙ none in let f : ⊥ = cc in f)
+one_none (Some p) (Some q) r one none = absurd (⊎_elim (λ is. let e = sym is ∙ none in let f : ⊥ = cc in f) (λ is. let e = sym is ∙ none in let f : ⊥ = cc in f) one)
+
+stray_good : (m : Map) (a : Option (List (List ℕ))) → Finds (IsStrayChild m) a → Good (IsDamage m) a
+stray_good m None finds = tt
+stray_good m (Some path) finds = record { stands = finds.0; place = inl finds.1 }
+
+child_good : (m : Map) (b : Option (List (List ℕ))) → IsChild m gate_path b → Good (IsDamage m) b
+child_good m None finds = tt
+child_good m (Some path) finds = record { stands = finds.0; place = inr (inl (finds.1.0, ([], finds.1.1))) }
+
+below_good : (m : Map) (b : Option (List (List ℕ))) → Finds (IsBelowEntry m) b → Good (IsDamage m) b
+below_good m None finds = tt
+below_good m (Some path) finds = record { stands = finds.0; place = inr (inr (finds.1.0, (finds.1.1.0, ([], finds.1.1.1)))) }
+
+not_dir_none : (stands : Option Node) → stands ≡ None → ¬ (stands ≡ Some Dir)
+not_dir_none stands none is = let f : ⊥ = cc in f
+
+-- nothing stands below a path that has no child
+pub no_child_below : (m : Map) (path : List (List ℕ)) → IsFormed m → ((name : List ℕ) → m (path ++ name ∷ []) ≡ None) → (name : List ℕ) (rest : List (List ℕ)) → m (path ++ name ∷ rest) ≡ None
+no_child_below m path formed none name [] = none name
+no_child_below m path formed none name (next ∷ rest) =
+    ap m (sym (append_assoc path (name ∷ []) (next ∷ rest))) ∙ nothing_below_other m rest (path ++ name ∷ []) next formed (not_dir_none (m (path ++ name ∷ [])) (none name))
+
+some_none : (stands : Option Node) → stands ≡ None → IsSome stands → ⊥
+some_none stands none some = false≢true (ap is_some (sym none) ∙ some)
+
+flat_none : (m : Map) → Finds (IsBelowEntry m) None → (name next : List ℕ) → m (entries_path ++ name ∷ next ∷ []) ≡ None
+flat_none m finds name next = go (m (entries_path ++ name ∷ next ∷ [])) refl
+  where
+    go : (stands : Option Node) → m (entries_path ++ name ∷ next ∷ []) ≡ stands → m (entries_path ++ name ∷ next ∷ []) ≡ None
+    go None at = at
+    go (Some x) at = absurd (finds (entries_path ++ name ∷ next ∷ []) (ap is_some at, (name, (next, refl))))
+
+no_damage : (m : Map) → IsFormed m → Finds (IsStrayChild m) None → IsChild m gate_path None → Finds (IsBelowEntry m) None → Finds (IsDamage m) None
+no_damage m formed stray child below path damage = ⊎_elim
+    (λ at. stray path (damage.stands, at))
+    (λ deeper. ⊎_elim
+    (λ at. some_none (m path) (ap m at.2 ∙ no_child_below m gate_path formed child at.0 at.1) damage.stands)
+    (λ at. some_none (m path) (ap m at.1.2 ∙ no_child_below m (entries_path ++ at.0 ∷ []) formed (λ next. flat_none m below at.0 next) at.1.0 at.1.1) damage.stands)
+    deeper)
+    damage.place
+
+damage_of : (m : Map) (a b d inner r : Option (List (List ℕ))) → IsFormed m → Finds (IsStrayChild m) a → IsChild m gate_path b → Finds (IsBelowEntry m) d → IsOneOf a inner r → IsOneOf b d inner → Finds (IsDamage m) r
+damage_of m a b d inner None formed stray child below one two =
+    let first = one_none a inner None one refl in
+    let second = one_none b d inner two first.1 in
+    no_damage m formed (subst (Finds (IsStrayChild m)) first.0 stray) (subst (IsChild m gate_path) second.0 child) (subst (Finds (IsBelowEntry m)) second.1 below)
+damage_of m a b d inner (Some path) formed stray child below one two =
+    one_good (IsDamage m) a inner (Some path) one (stray_good m a stray) (one_good (IsDamage m) b d inner two (child_good m b child) (below_good m d below))
+
+pub damage_told : (told : Option Told) (a b d inner r : Option (List (List ℕ))) → OnTold told (λ s. IsImage s s.now) → OnTold told (λ s. Finds (IsStrayChild s.now) a) → OnTold told (λ s. IsChild s.now gate_path b) → OnTold told (λ s. Finds (IsBelowEntry s.now) d)
+    → IsOneOf a inner r → IsOneOf b d inner → OnTold told (λ s. Finds (IsDamage s.now) r)
+damage_told None a b d inner r image stray child below one two = tt
+damage_told (Some s) a b d inner r image stray child below one two = damage_of s.now a b d inner r image.formed stray child below one two
+
+-- without damage nothing stands below the gate
+pub gate_free : (m : Map) → Finds (IsDamage m) None → (name : List ℕ) (rest : List (List ℕ)) → m (gate_path ++ name ∷ rest) ≡ None
+gate_free m finds name rest = go (m (gate_path ++ name ∷ rest)) refl
+  where
+    go : (stands : Option Node) → m (gate_path ++ name ∷ rest) ≡ stands → m (gate_path ++ name ∷ rest) ≡ None
+    go None at = at
+    go (Some x) at = absurd (finds (gate_path ++ name ∷ rest) (record { stands = ap is_some at; place = inr (inl (name, (rest, refl))) }))
+
+-- and nothing below a child of the entries' directory
+pub entries_flat : (m : Map) → Finds (IsDamage m) None → (name next : List ℕ) → m (entries_path ++ name ∷ next ∷ []) ≡ None
+entries_flat m finds name next = go (m (entries_path ++ name ∷ next ∷ [])) refl
+  where
+    go : (stands : Option Node) → m (entries_path ++ name ∷ next ∷ []) ≡ stands → m (entries_path ++ name ∷ next ∷ []) ≡ None
+    go None at = at
+    go (Some x) at = absurd (finds (entries_path ++ name ∷ next ∷ []) (record { stands = ap is_some at; place = inr (inr (name, (next, ([], refl)))) }))

@@ -1,6 +1,7 @@
 pub mod Abandonings
 pub mod Apart
 pub mod Backs
+pub mod Clearings
 pub mod Closings
 pub mod Counting
 pub mod Damages
@@ -12,6 +13,7 @@ pub mod Keeps
 pub mod Names
 pub mod Opens
 pub mod Overlays
+pub mod Preparings
 pub mod Runs
 pub mod Touchings
 pub mod Undoings

@@ -2,10 +2,11 @@ ghost use Rattle.std.specs.Prelude.{◌≡◌, ◌<◌, ◌⊎◌, ◌↔◌, le
 ghost use Rattle.folder_core.specs.Cause.{HasCause};
 ghost use Rattle.folder_core.specs.Node.{entries_path};
 ghost use Rattle.folder_core.specs.Step.{OnTold};
+ghost use Rattle.backup_store.specs.Places.{gate_path};
 ghost use Rattle.install_journal.specs.Looks.{OnlyLooks};
-ghost use Rattle.install_journal.specs.Preparing.{IsChild, IsBelowEntry, IsStrayChild, Finds, journal_path};
+ghost use Rattle.install_journal.specs.Preparing.{IsChild, IsBelowEntry, IsStrayChild, IsDamage, IsOneOf, Finds, journal_path};
 
-use crate::places::child;
+use crate::places::{Places, child};
 use folder_core::{Folder, FolderError, Name, Path};
 use std::alloc::Global;
 
@@ -75,4 +76,40 @@ fn is_own(name: &Name) -> bool
 {
     let text = name.text().as_str();
     text == "undo" || text == "e"
+}
+
+/// What stands where the journal puts nothing. None where there is no such thing.
+pub(crate) fn find_damage<F: Folder>(
+    alloc: Global,
+    folder: &mut F,
+    places: &Places,
+) -> Result<Option<Path>, FolderError>
+    requires journal { places.now.journal ≡ journal_path }
+    requires entries { places.now.entries ≡ entries_path }
+    requires gate { places.now.gate ≡ gate_path }
+    ensures found { IfOk result (λ found. OnTold (F.told folder.old) (λ s. Finds (IsDamage s.now) found)) }
+    ensures looks { OnlyLooks F.told F.left_since folder.old folder.new }
+    ensures cause { HasCause (F.faults folder.old) (F.faults folder.new) (IsErrOf result FolderError.Failed) }
+{
+    let stray = stray_child(alloc, folder, &places.journal)?;
+    let below_gate = first_child(alloc, folder, &places.gate)?;
+    let below = below_entries(alloc, folder, &places.entries)?;
+    Ok(earlier(stray, earlier(below_gate, below)))
+}
+
+/// The earlier of two paths that were found.
+fn earlier(first: Option<Path>, second: Option<Path>) -> Option<Path>
+    ensures { IsOneOf first second result }
+{
+    match (first, second) {
+        (None, second) => second,
+        (Some(first), None) => Some(first),
+        (Some(first), Some(second)) => {
+            if second < first {
+                Some(second)
+            } else {
+                Some(first)
+            }
+        }
+    }
 }

@@ -8,7 +8,9 @@ mod damage;
 mod fault;
 mod finishing;
 mod gate;
+mod opening;
 mod places;
+mod preparing;
 mod touching;
 mod undoing;
 

@@ -2,10 +2,39 @@ ghost use Rattle.std.specs.Prelude.{◌≡◌, ◌++◌, ◌∷◌, ◌<◌, [],
 ghost use Rattle.folder_core.specs.Name.{IsName};
 ghost use Rattle.folder_core.specs.Node.{entries_path};
 ghost use Rattle.backup_store.specs.Places.{gate_path};
+ghost use Rattle.install_journal.specs.Preparing.{journal_path};
 
 use folder_core::{Name, Path};
 use osgi_version::{NoMemory, Text, Twin};
 use std::alloc::Global;
+
+/// Where the journal stands in a folder.
+#[derive(Debug, Drop)]
+pub(crate) struct Places {
+    /// `.p2`.
+    pub(crate) journal: Path,
+    /// `.p2/e`.
+    pub(crate) entries: Path,
+    /// `.p2/undo`.
+    pub(crate) gate: Path,
+}
+
+impl Places {
+    pub(crate) fn new(alloc: Global) -> Result<Places, NoMemory>
+        ensures journal { IfOk result (λ places. places.journal ≡ journal_path) }
+        ensures entries { IfOk result (λ places. places.entries ≡ entries_path) }
+        ensures gate { IfOk result (λ places. places.gate ≡ gate_path) }
+    {
+        let journal = below(alloc, Path::root(alloc), ".p2")?;
+        let entries = below(alloc, journal.copy()?, "e")?;
+        let gate = gate_path(alloc)?;
+        Ok(Places {
+            journal,
+            entries,
+            gate,
+        })
+    }
+}
 
 /// Where the gate stands: `.p2/undo`.
 pub(crate) fn gate_path(alloc: Global) -> Result<Path, NoMemory>

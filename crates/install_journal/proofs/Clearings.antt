@@ -13,7 +13,8 @@ use Rattle.folder_core.specs.Step.{OnTold, Step}
 use Rattle.folder_core.specs.declared.node.Node.{Node}
 use Rattle.folder_core.specs.declared.node.Node.TheVariants.{Dir}
 use Rattle.folder_core.proofs.Maps.{same_path, changed_here, changed_other, parent-push, push_some}
-use Rattle.install_journal.specs.Preparing.{IsLeft, HasFlatEntries, HasNoEntries}
+use Rattle.install_journal.specs.Preparing.{IsLeft, HasFlatEntries, HasNoEntries, SparesGate, journal_path}
+use Rattle.backup_store.specs.Places.{gate_path}
 use Rattle.install_journal.proofs.Closings.{nothing_below_other}
 use Rattle.install_journal.proofs.Firsts.{is_some_dir}
 use Rattle.install_journal.proofs.Runs.{on_each, on_both, step_on, step_both, step_then, step_same}
@@ -124,3 +125,28 @@ all_gone fn now entries names place is image those loses gone all directory =
         let some : IsSome (a (entries ++ name ∷ [])) = ap is_some at in
         let has = (those name).1 (record { directory = is_some_dir a entries name formed some; stands = some }) in
         inr (has.0, (has.1, get_or_default names has.0 [] name has.1 ∙ has.2))
+
+spares_but : (a b : Map) (entries path : List (List ℕ)) (name : List ℕ) → entries ≡ entries_path → path ≡ entries ++ name ∷ [] → SameBut path a b → SparesGate a b
+spares_but a b entries path name is at but = record {
+  journal = but journal_path (λ e. let here = at ∙ ap (λ (p : List (List ℕ)). p ++ name ∷ []) is in let f : ⊥ = cc in f);
+  below = λ next rest none. but (gate_path ++ next ∷ rest) (λ e. let here = at ∙ ap (λ (p : List (List ℕ)). p ++ name ∷ []) is in let f : ⊥ = cc in f) ∙ none;
+}
+
+spares_more : (a b d : Map) → SparesGate a b → SparesGate b d → SparesGate a d
+spares_more a b d first second = record {
+  journal = second.journal ∙ first.journal;
+  below = λ name rest none. second.below name rest (first.below name rest none);
+}
+
+pub spares_then : (a b d : Option Told) (entries path : List (List ℕ)) (name : List ℕ) → entries ≡ entries_path → path ≡ entries ++ name ∷ [] → Step a b (λ s t. SparesGate s.now t.now) → Step b d (λ s t. SameBut path s.now t.now) → Step a d (λ s t. SparesGate s.now t.now)
+spares_then a b d entries path name is at first but = step_then a b d (λ s t. SparesGate s.now t.now) (λ s t. SameBut path s.now t.now) (λ s t. SparesGate s.now t.now) first but
+    (λ s t u p q. spares_more s.now t.now u.now p (spares_but t.now u.now entries path name is at q))
+
+spares_same_now : (a b : Map) → b ≡ a → SparesGate a b
+spares_same_now a b same = record { journal = ap (λ (m : Map). m journal_path) same; below = λ name rest none. ap (λ (m : Map). m (gate_path ++ name ∷ rest)) same ∙ none }
+
+pub spares_same : (a b : Option Told) → Step a b (λ s t. t.now ≡ s.now) → Step a b (λ s t. SparesGate s.now t.now)
+spares_same None None same = tt
+spares_same None (Some t) same = absurd same
+spares_same (Some s) None same = absurd same
+spares_same (Some s) (Some t) same = spares_same_now s.now t.now same

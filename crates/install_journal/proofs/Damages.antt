@@ -115,11 +115,11 @@ stray_good m (Some path) finds = record { stands = finds.0; place = inl finds.1 
 
 child_good : (m : Map) (b : Option (List (List ℕ))) → IsChild m gate_path b → Good (IsDamage m) b
 child_good m None finds = tt
-child_good m (Some path) finds = record { stands = finds.0; place = inr (inl (finds.1.0, ([], finds.1.1))) }
+child_good m (Some path) finds = record { stands = finds.0; place = inr (inl (finds.1.0, [], finds.1.1)) }
 
 below_good : (m : Map) (b : Option (List (List ℕ))) → Finds (IsBelowEntry m) b → Good (IsDamage m) b
 below_good m None finds = tt
-below_good m (Some path) finds = record { stands = finds.0; place = inr (inr (finds.1.0, (finds.1.1.0, ([], finds.1.1.1)))) }
+below_good m (Some path) finds = record { stands = finds.0; place = inr (inr (finds.1.0, (finds.1.1.0, [], finds.1.1.1))) }
 
 not_dir_none : (stands : Option Node) → stands ≡ None → ¬ (stands ≡ Some Dir)
 not_dir_none stands none is = let f : ⊥ = cc in f
@@ -168,7 +168,7 @@ gate_free m finds name rest = go (m (gate_path ++ name ∷ rest)) refl
   where
     go : (stands : Option Node) → m (gate_path ++ name ∷ rest) ≡ stands → m (gate_path ++ name ∷ rest) ≡ None
     go None at = at
-    go (Some x) at = absurd (finds (gate_path ++ name ∷ rest) (record { stands = ap is_some at; place = inr (inl (name, (rest, refl))) }))
+    go (Some x) at = absurd (finds (gate_path ++ name ∷ rest) (record { stands = ap is_some at; place = inr (inl (name, rest, refl)) }))
 
 -- and nothing below a child of the entries' directory
 pub entries_flat : (m : Map) → Finds (IsDamage m) None → (name next : List ℕ) → m (entries_path ++ name ∷ next ∷ []) ≡ None
@@ -176,4 +176,4 @@ entries_flat m finds name next = go (m (entries_path ++ name ∷ next ∷ [])) r
   where
     go : (stands : Option Node) → m (entries_path ++ name ∷ next ∷ []) ≡ stands → m (entries_path ++ name ∷ next ∷ []) ≡ None
     go None at = at
-    go (Some x) at = absurd (finds (entries_path ++ name ∷ next ∷ []) (record { stands = ap is_some at; place = inr (inr (name, (next, ([], refl)))) }))
+    go (Some x) at = absurd (finds (entries_path ++ name ∷ next ∷ []) (record { stands = ap is_some at; place = inr (inr (name, (next, [], refl))) }))

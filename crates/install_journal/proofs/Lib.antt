@@ -11,10 +11,12 @@ pub mod Firsts
 pub mod Keepings
 pub mod Keeps
 pub mod Names
+pub mod Openings
 pub mod Opens
 pub mod Overlays
 pub mod Preparings
 pub mod Runs
+pub mod Settings
 pub mod Touchings
 pub mod Undoings
 pub mod Unique

@@ -118,3 +118,8 @@ abbrev pub NeverEither : JournalFault → Type 0
 NeverEither (Failed after) = after ≢ Either
 NeverEither (Damaged path) = Unit {0}
 NeverEither (NoMemory after) = after ≢ Either
+
+-- What stands at `.p2` stays, and where nothing stands below the gate, nothing does afterwards.
+pub record SparesGate (a b : Map) : Type 0 where
+  pub journal : b journal_path ≡ a journal_path
+  pub below : (name : List ℕ) (rest : List (List ℕ)) → a (gate_path ++ name ∷ rest) ≡ None → b (gate_path ++ name ∷ rest) ≡ None

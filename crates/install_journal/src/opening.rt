@@ -20,21 +20,21 @@ use folder_core::{After, Folder, FolderError, Node, Path};
 pub(crate) fn open_gate<F: Folder>(
     folder: &mut F,
     gate: &Path,
-    open: &Node,
+    opened: &Node,
 ) -> Result<Change, JournalFault>
     requires gate { gate.now ≡ gate_path }
-    requires node { open.now ≡ node.File 420 gate_text }
+    requires node { opened.now ≡ node.File 420 gate_text }
     requires fresh { OnTold (F.told folder.old) IsFresh }
     ensures begun { IfOk result (λ change. change ≡ begun) }
-    ensures opened { IfOk result (λ change. OnTold (F.told folder.new) (IsOpen change)) }
+    ensures is_open { IfOk result (λ change. OnTold (F.told folder.new) (IsOpen change)) }
     ensures stays { Step (F.told folder.old) (F.told folder.new) (λ s t. SameOutside t.now s.now) }
     ensures leaves { OnTold (F.told folder.old) (λ s. LeavesOnly F.told F.left_since folder.old folder.new (λ m. IsRestored m s.now)) }
     ensures shut { IfErr result (OnUnchanged (OnTold (F.told folder.new) IsShut)) }
-    ensures open { IfErr result (OnRecover (OnTold (F.told folder.new) MayBeOpen)) }
+    ensures may_be_open { IfErr result (OnRecover (OnTold (F.told folder.new) MayBeOpen)) }
     ensures never_either { IfErr result NeverEither }
     ensures cause { HasCause (F.faults folder.old) (F.faults folder.new) (IsErrAnd result IsFailure) }
 {
-    match folder.set(gate, Some(open)) {
+    match folder.set(gate, Some(opened)) {
         Ok(()) => {}
         Err(FolderError::NoMemory) => return Err(JournalFault::NoMemory(After::Unchanged)),
         Err(FolderError::Failed) => return Err(JournalFault::Failed(After::Recover)),

@@ -1,13 +1,13 @@
-ghost use Rattle.std.specs.Prelude.{◌≡◌, ◌≢◌, [], ◌↔◌, IsTrue, OnOk, IsErrOf, Some};
+ghost use Rattle.std.specs.Prelude.{◌≡◌, ◌≢◌, [], ◌↔◌, IsTrue, OnOk, IsErrOf, Some, None};
 ghost use Rattle.folder_core.specs.Cause.{HasCause};
 ghost use Rattle.folder_core.specs.Folder.{SameBut};
 ghost use Rattle.folder_core.specs.Node.{entries_path};
 ghost use Rattle.folder_core.specs.Path.{parent};
 ghost use Rattle.folder_core.specs.Step.{OnTold, Step};
 ghost use Rattle.folder_core.specs.declared.node.Node.TheVariants as node;
-ghost use Rattle.install_journal.specs.Preparing.{IsLeft, IsPrepared, Moves, LeavesClosed, HasFlatEntries, HasNoEntries};
+ghost use Rattle.install_journal.specs.Preparing.{IsLeft, IsPrepared, Moves, LeavesClosed, HasFlatEntries, HasNoEntries, IsDamage, IsFresh, Finds, SparesGate, journal_path};
 
-use crate::places::child;
+use crate::places::{Places, child};
 use folder_core::{Folder, FolderError, Node, Path};
 use std::alloc::Global;
 
@@ -51,6 +51,7 @@ pub(crate) fn clear_entries<F: Folder>(
     requires flat { OnTold (F.told folder.old) (λ s. HasFlatEntries s.now) }
     requires prepared { OnTold (F.told folder.old) IsPrepared }
     ensures cleared { OnOk result (OnTold (F.told folder.new) (λ t. HasNoEntries t.now)) }
+    ensures spares { Step (F.told folder.old) (F.told folder.new) (λ s t. SparesGate s.now t.now) }
     ensures moves { Step (F.told folder.old) (F.told folder.new) Moves }
     ensures leaves { LeavesClosed F.told F.left_since folder.old folder.new }
     ensures cause { HasCause (F.faults folder.old) (F.faults folder.new) (IsErrOf result FolderError.Failed) }
@@ -60,5 +61,27 @@ pub(crate) fn clear_entries<F: Folder>(
     for name in names {
         folder.set(&child(entries, name)?, None)?;
     }
+    Ok(())
+}
+
+/// Makes the journal's directories, removes what is in them, and syncs.
+pub(crate) fn set_up<F: Folder>(
+    alloc: Global,
+    folder: &mut F,
+    places: &Places,
+) -> Result<(), FolderError>
+    requires journal { places.now.journal ≡ journal_path }
+    requires entries { places.now.entries ≡ entries_path }
+    requires prepared { OnTold (F.told folder.old) IsPrepared }
+    requires undamaged { OnTold (F.told folder.old) (λ s. Finds (IsDamage s.now) None) }
+    ensures fresh { OnOk result (OnTold (F.told folder.new) IsFresh) }
+    ensures moves { Step (F.told folder.old) (F.told folder.new) Moves }
+    ensures leaves { LeavesClosed F.told F.left_since folder.old folder.new }
+    ensures cause { HasCause (F.faults folder.old) (F.faults folder.new) (IsErrOf result FolderError.Failed) }
+{
+    make_directory(alloc, folder, &places.journal)?;
+    make_directory(alloc, folder, &places.entries)?;
+    clear_entries(alloc, folder, &places.entries)?;
+    folder.sync()?;
     Ok(())
 }

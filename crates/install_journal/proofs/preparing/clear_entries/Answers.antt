@@ -5,7 +5,7 @@ use Rattle.folder_core.specs.Node.{entries_path}
 use Rattle.folder_core.specs.Step.{OnTold, Step}
 use Rattle.folder_core.specs.declared.node.Node.TheVariants.{Dir}
 use Rattle.install_journal.specs.Preparing.{Moves}
-use Rattle.install_journal.proofs.Clearings.{can_clear, inside_entries, directory_stays, gone_stays, gone_here, all_gone, loses_same, loses_then}
+use Rattle.install_journal.proofs.Clearings.{can_clear, inside_entries, directory_stays, gone_stays, gone_here, all_gone, loses_same, loses_then, spares_same, spares_then}
 use Rattle.install_journal.proofs.Damages.{name_at}
 use Rattle.install_journal.proofs.Opens.{looks_of}
 use Rattle.install_journal.proofs.Preparings.{looked_on, looks_move, set_moves, both_move, still_prepared, one_closed, closed_then}
@@ -24,6 +24,7 @@ loop-name-init g c =
       later = cause.later;
       kids = subst (λ (l : List (List ℕ)). OnTold (g.F.Folder.told c.args.folder.now) (λ s. AreThose (IsKid s.now c.args.entries.now) l)) (sym c.items-names.ensures) c.in_ok-names.ensures.kids;
       loses = loses_same (g.F.Folder.told c.args.folder.now) (g.F.Folder.told c.kids.new.self) c.kids.ensures.stays;
+      spares = spares_same (g.F.Folder.told c.args.folder.now) (g.F.Folder.told c.kids.new.self) c.kids.ensures.stays;
       directory = looked_on g.F.Folder.told g.F.Folder.left_since c.args.folder.now c.kids.new.self (λ (m : Map). m entries_path ≡ Some Dir) (looks_of g.F.Folder.told g.F.Folder.left_since c.args.folder.now c.kids.new.self c.kids.ensures.stays c.kids.ensures.unsynced c.kids.ensures.untouched c.kids.ensures.time) c.requires.directory;
       gone = λ place below. absurd (omega arith);
     }
@@ -39,6 +40,7 @@ loop-name-preserved g c =
       later = omega (arith, inv.later, cause.later);
       kids = inv.kids;
       loses = loses_then (g.F.Folder.told c.args.folder.now) (g.F.Folder.told c.loop-name.folder) (g.F.Folder.told c.set-in-loop-name.new.self) c.in_ok-child.field-0 inv.loses c.in_ok-set.ensures.ok;
+      spares = spares_then (g.F.Folder.told c.args.folder.now) (g.F.Folder.told c.loop-name.folder) (g.F.Folder.told c.set-in-loop-name.new.self) c.args.entries.now c.in_ok-child.field-0 c.name-item.result c.requires.entries c.in_ok-child.ensures c.loop-name.invariant.spares c.set-in-loop-name.ensures.elsewhere;
       directory = directory_stays (g.F.Folder.told c.loop-name.folder) (g.F.Folder.told c.set-in-loop-name.new.self) c.args.entries.now c.in_ok-child.field-0 c.name-item.result c.requires.entries c.in_ok-child.ensures inv.directory c.set-in-loop-name.ensures.elsewhere;
       gone = below_more _ _ (λ place below. gone_stays (g.F.Folder.told c.loop-name.folder) (g.F.Folder.told c.set-in-loop-name.new.self) (c.args.entries.now ++ get_or c.items-names.result.now place [] ∷ []) c.in_ok-child.field-0 (inv.gone place below) c.in_ok-set.ensures.ok)
           (gone_here (g.F.Folder.told c.loop-name.folder) (g.F.Folder.told c.set-in-loop-name.new.self) (c.args.entries.now ++ get_or c.items-names.result.now c.loop-name.name-index [] ∷ []) c.in_ok-child.field-0 (ap (λ (n : List ℕ). c.args.entries.now ++ n ∷ []) (sym name) ∙ sym c.in_ok-child.ensures) c.in_ok-set.ensures.ok);
@@ -63,3 +65,10 @@ returns-in_err-set-clause-leaves g c =
 pub returns-clause-cleared : goal.returns-clause-cleared
 returns-clause-cleared g c =
     all_gone (g.F.Folder.told c.args.folder.now) (g.F.Folder.told c.loop-name.folder) c.args.entries.now c.items-names.result.now c.loop-name.name-index c.requires.entries (g.met.F.Folder.image_now c.args.folder.now) c.loop-name.invariant.kids c.loop-name.invariant.loses c.loop-name.invariant.gone c.loop-name-test.false c.loop-name.invariant.directory
+
+pub returns-in_err-names-clause-spares : goal.returns-in_err-names-clause-spares
+returns-in_err-names-clause-spares g c = spares_same (g.F.Folder.told c.args.folder.now) (g.F.Folder.told c.kids.new.self) c.kids.ensures.stays
+
+pub returns-in_err-set-clause-spares : goal.returns-in_err-set-clause-spares
+returns-in_err-set-clause-spares g c =
+    spares_then (g.F.Folder.told c.args.folder.now) (g.F.Folder.told c.loop-name.folder) (g.F.Folder.told c.set-in-loop-name.new.self) c.args.entries.now c.in_ok-child.field-0 c.name-item.result c.requires.entries c.in_ok-child.ensures c.loop-name.invariant.spares c.set-in-loop-name.ensures.elsewhere

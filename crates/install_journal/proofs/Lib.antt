@@ -1,6 +1,7 @@
 pub mod Abandonings
 pub mod Apart
 pub mod Backs
+pub mod Beginnings
 pub mod Clearings
 pub mod Closings
 pub mod Counting

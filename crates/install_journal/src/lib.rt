@@ -2,6 +2,7 @@
 #![tactic(auto)]
 
 mod abandoning;
+mod beginning;
 mod change;
 mod closing;
 mod damage;

@@ -10,7 +10,7 @@ ghost use Rattle.install_journal.specs.Open.{IsOpen};
 ghost use Rattle.install_journal.specs.Overlay.{SameOutside};
 ghost use Rattle.install_journal.specs.Preparing.{IsFresh, IsShut, OnUnchanged, OnRecover, NeverEither, begun};
 ghost use Rattle.install_journal.specs.Restored.{IsRestored};
-ghost use Rattle.install_journal.specs.Undoing.{IsFailure};
+ghost use Rattle.install_journal.specs.Undoing.{IsFailure, OnDamage};
 
 use crate::change::Change;
 use crate::fault::JournalFault;
@@ -31,6 +31,7 @@ pub(crate) fn open_gate<F: Folder>(
     ensures leaves { OnTold (F.told folder.old) (λ s. LeavesOnly F.told F.left_since folder.old folder.new (λ m. IsRestored m s.now)) }
     ensures shut { IfErr result (OnUnchanged (OnTold (F.told folder.new) IsShut)) }
     ensures may_be_open { IfErr result (OnRecover (OnTold (F.told folder.new) MayBeOpen)) }
+    ensures never_damaged { IfErr result (OnDamage (λ at. ⊥)) }
     ensures never_either { IfErr result NeverEither }
     ensures cause { HasCause (F.faults folder.old) (F.faults folder.new) (IsErrAnd result IsFailure) }
 {

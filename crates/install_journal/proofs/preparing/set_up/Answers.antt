@@ -1,3 +1,4 @@
+use Rattle.std.proofs.Common.{sym, ◌∙◌}
 use Rattle.install_journal.specs.Preparing.{Moves}
 use Rattle.install_journal.proofs.Preparings.{both_move, still_prepared, one_closed, closed_then}
 use Rattle.install_journal.proofs.Settings.{journal_inside, entries_inside, journal_above, entries_above, flat_then, directory_now, sync_moves, fail_moves, fresh_then}
@@ -8,8 +9,7 @@ make_directory-requires-clause-inside g c =
     journal_inside c.args.places.now.journal c.requires.journal
 
 pub make_directory-requires-clause-not_root : goal.make_directory-requires-clause-not_root
-make_directory-requires-clause-not_root g c =
-    ?
+make_directory-requires-clause-not_root g c = λ e. let x = sym c.requires.journal ∙ e in let f : ⊥ = cc in f
 
 pub make_directory-requires-clause-above : goal.make_directory-requires-clause-above
 make_directory-requires-clause-above g c =
@@ -20,8 +20,7 @@ make_directory-requires-2-clause-inside g c =
     entries_inside c.args.places.now.entries c.requires.entries
 
 pub make_directory-requires-2-clause-not_root : goal.make_directory-requires-2-clause-not_root
-make_directory-requires-2-clause-not_root g c =
-    ?
+make_directory-requires-2-clause-not_root g c = λ e. let x = sym c.requires.entries ∙ e in let f : ⊥ = cc in f
 
 pub make_directory-requires-2-clause-above : goal.make_directory-requires-2-clause-above
 make_directory-requires-2-clause-above g c =

@@ -12,6 +12,8 @@ mod gate;
 mod opening;
 mod places;
 mod preparing;
+#[cfg(test)]
+mod tests;
 mod touching;
 mod undoing;
 

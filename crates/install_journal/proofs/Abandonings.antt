@@ -1,8 +1,8 @@
 -- A change is abandoned.
-use Rattle.std.proofs.Common.{◌≡◌, ◌≢◌, ℕ, zero, suc, ◌≤◌, List, [], Option, Some, None, Result, Ok, Err, OnOk, OnErr, ◌⊎◌, inl, inr, ⊎_elim, refl, sym, ◌∙◌, ap, subst, arith}
+use Rattle.std.proofs.Common.{◌≡◌, ℕ, ◌≤◌, [], Option, Some, None, Result, Ok, Err, OnOk, OnErr, ⊎_elim, sym, ◌∙◌, ap, subst}
 use Rattle.std.specs.Bool.{⊤}
-use Rattle.folder_core.specs.Folder.{Map, Told, SameBut}
-use Rattle.folder_core.specs.Crash.{IsImage, AllImages, Elapses, LeavesOnly}
+use Rattle.folder_core.specs.Folder.{Map, Told}
+use Rattle.folder_core.specs.Crash.{IsImage, Elapses, LeavesOnly}
 use Rattle.folder_core.specs.Step.{OnTold, Step}
 use Rattle.folder_core.proofs.Moments.{images_now, holds_now}
 use Rattle.backup_store.specs.Held.{gate_text, IsOpen as OpensGate}
@@ -12,13 +12,12 @@ use Rattle.install_journal.specs.Closing.{IsSynced, IsButGate, IsClosed, Touches
 use Rattle.install_journal.specs.Kept.{AreKept, Undoes}
 use Rattle.install_journal.specs.Open.{IsOpen}
 use Rattle.install_journal.specs.Overlay.{SameOutside}
-use Rattle.install_journal.specs.Restored.{IsRestored, RestoresLike, RestoresSame, IsSettled}
+use Rattle.install_journal.specs.Restored.{RestoresLike, RestoresSame, IsSettled}
 use Rattle.install_journal.specs.declared.change.Change.{Change}
-use Rattle.install_journal.proofs.Closings.{nothing_touched}
 use Rattle.install_journal.proofs.Counting.{restored_one, restored_same, restores_alike, is_file_or_not, same_outside_then, same_outside_sym}
 use Rattle.install_journal.proofs.Finishings.{but_gate_old, but_gate_new, settled_closed, mid_ran, mid_opens, mid_synced, synced_at, Synced}
-use Rattle.install_journal.proofs.Keeps.{kept_shows, kept_restores}
-use Rattle.install_journal.proofs.Runs.{on_told, on_each, on_both, at_told, step_on, step_both, step_each, step_then, step_from, Ran, more}
+use Rattle.install_journal.proofs.Keeps.{kept_restores}
+use Rattle.install_journal.proofs.Runs.{on_told, on_each, on_both, at_told, step_on, step_then, step_from, more}
 
 settled_same : (a b : Map) (t : Told) → SameOutside a b → IsSettled a t → IsSettled b t
 settled_same a b t same settled = record {
@@ -70,7 +69,6 @@ module _ {D : Type 0} (told : D → Option Told) (left_since : D → ℕ → Map
     (settled : Step (told old) (told mid) (λ s t. t.touched ≡ []))
     (time : Step (told old) (told mid) (λ s t. Elapses s.moment t.moment (left_since old) (left_since mid) (IsImage t)))
     (new : D) where
-
   pub end_settles : Step (told mid) (told new) IsClosed → Step (told old) (told new) SettlesRestored
   end_settles closed = step_from (told old) (told new) (λ s. IsOpen change s × IsImage s s.now) (λ s u. (t : Told) × (Synced s t × IsClosed t u)) SettlesRestored
       (on_both (told old) (IsOpen change) (λ s. IsImage s s.now) began image)

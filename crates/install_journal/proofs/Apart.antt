@@ -1,12 +1,11 @@
 -- The places of the journal are apart from each other, and inside `.p2`.
-use Rattle.std.proofs.Common.{◌≡◌, ◌≢◌, ℕ, ◌+◌, ◌<◌, ◌≤◌, ◌^◌, List, [], ◌∷◌, ◌++◌, length, get_or, refl, sym, ◌∙◌, ap, arith, codes, length-append}
+use Rattle.std.proofs.Common.{◌≡◌, ◌≢◌, ℕ, ◌<◌, ◌≤◌, List, ◌++◌, length, get_or, ◌∙◌, ap, arith, codes, length-append}
 use Rattle.std.specs.Fmt.{decimal}
 use Rattle.std.proofs.lemmas.Fmt.{decimal_injective, decimal_is_IsNumeral}
 use Rattle.std.proofs.lemmas.Str.Parse.{digit_at}
 use Rattle.std.proofs.lemmas.List.{append_cancel_right}
 use Rattle.std.proofs.Math.Seq.{get_or-append_seam}
-use Rattle.folder_core.specs.Node.{entries_path}
-use Rattle.backup_store.specs.Places.{IsOutside, gate_path, entry_path, mark_path}
+use Rattle.backup_store.specs.Places.{entry_path, mark_path}
 
 abbrev IsSmallNumber : ℕ → Type 0
 IsSmallNumber number = number ≤ 1000001

@@ -1,25 +1,25 @@
 -- The newest entry is put back.
-use Rattle.std.proofs.Common.{◌≡◌, ◌≢◌, ℕ, zero, suc, ◌+◌, ◌-◌, ◌<◌, ◌≤◌, List, [], ◌∷◌, ◌++◌, length, Option, Some, None, Bool, true, false, ◌⊎◌, inl, inr, ⊎_elim, refl, sym, ◌∙◌, ap, subst, arith, codes}
+use Rattle.std.proofs.Common.{◌≡◌, ℕ, zero, suc, ◌+◌, ◌-◌, ◌<◌, ◌≤◌, List, length, Option, Some, None, true, false, refl, sym, ◌∙◌, ap, subst, arith}
 use Rattle.std.specs.Bool.{⊤}
-use Rattle.folder_core.specs.Folder.{Map, Told, CanSet}
+use Rattle.folder_core.specs.Folder.{Map, Told}
 use Rattle.folder_core.specs.Crash.{IsImage, AllImages, Elapses, LeavesOnly}
 use Rattle.folder_core.specs.Step.{OnTold, Step}
 use Rattle.folder_core.proofs.Moments.{images_now, holds_now}
 use Rattle.backup_store.specs.Fault.{IfDamaged}
 use Rattle.backup_store.specs.declared.fault.StoreFault.{StoreFault}
 use Rattle.backup_store.specs.declared.fault.StoreFault.TheVariants.{Failed, Damaged, NoMemory}
-use Rattle.backup_store.specs.Held.{IsDamaged, IsOpen as OpensGate}
+use Rattle.backup_store.specs.Held.{IsDamaged}
 use Rattle.backup_store.specs.PuttingBack.{HasRoomBack, PutsBack, SameButRestored, TouchesRestored}
 use Rattle.install_journal.specs.Closing.{MayBeOpen}
 use Rattle.install_journal.specs.Kept.{AreKept, Undoes}
 use Rattle.install_journal.specs.Open.{IsOpen}
-use Rattle.install_journal.specs.Restored.{IsRestored, RestoresLike, RestoresSame}
+use Rattle.install_journal.specs.Restored.{RestoresLike, RestoresSame}
 use Rattle.install_journal.specs.Undoing.{PutsBackFrom, shortened}
 use Rattle.install_journal.specs.declared.change.Change.{Change}
 use Rattle.install_journal.proofs.Counting.{restores_alike, restores_then}
 use Rattle.install_journal.proofs.Keeps.{kept_shows, kept_restores, kept_goes_on}
 use Rattle.install_journal.proofs.Opens.{open_restores}
-use Rattle.install_journal.proofs.Runs.{on_told, on_each, on_both, at_told, step_on, step_both, step_each, step_then, step_same, Ran, start_at, one, more}
+use Rattle.install_journal.proofs.Runs.{on_told, on_each, on_both, at_told, step_on, step_both, step_each, step_then, step_same, start_at, one, more}
 use Rattle.install_journal.proofs.Undoings.{never_damaged, room_back, back_fixed, back_puts, back_fails}
 
 -- a change with entries left, in a folder whose map now is an image
@@ -94,7 +94,6 @@ module _ {D : Type 0} (told : D → Option Told) (left_since : D → ℕ → Map
     (began : OnTold (told old) (IsOpen change))
     (image : OnTold (told old) (λ s. IsImage s s.now))
     (only : OnTold (told old) (λ s. (m : Map) → left_since old s.moment m → IsImage s m)) where
-
   pub backable : OnTold (told old) (IsBackable change)
   backable = on_each (told old) (λ s. IsOpen change s × IsImage s s.now) (IsBackable change) (λ s both. record { began = both.0; image = both.1 })
       (on_both (told old) (IsOpen change) (λ s. IsImage s s.now) began image)

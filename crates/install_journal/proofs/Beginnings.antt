@@ -1,5 +1,5 @@
 -- A change begins.
-use Rattle.std.proofs.Common.{◌≡◌, ◌≢◌, ℕ, ◌≤◌, List, [], Option, Some, None, Result, Ok, Err, OnOk, OnErr, ◌⊎◌, inl, inr, ⊎_elim, refl, sym, ◌∙◌, ap, subst, arith}
+use Rattle.std.proofs.Common.{◌≡◌, ℕ, ◌≤◌, List, [], Option, Some, None, Result, Ok, Err, OnOk, ◌⊎◌, inl, inr, sym, ◌∙◌, ap, subst}
 use Rattle.std.specs.Bool.{⊤}
 use Rattle.std.specs.Result.{IfErr}
 use Rattle.folder_core.specs.Folder.{Map, Told}
@@ -10,17 +10,16 @@ use Rattle.backup_store.specs.Held.{IsFileOf, gate_text, IsOpen as OpensGate}
 use Rattle.backup_store.specs.Places.{gate_path}
 use Rattle.install_journal.specs.Looks.{Looks, OnlyLooks}
 use Rattle.install_journal.specs.Overlay.{SameOutside}
-use Rattle.install_journal.specs.Preparing.{IsPrepared, IsClosedOld, LeavesClosed, Moves, IsShut, IsDamage, Finds, OnUnchanged, OnRecover}
+use Rattle.install_journal.specs.Preparing.{IsPrepared, IsClosedOld, LeavesClosed, Moves, IsShut, OnUnchanged, OnRecover}
 use Rattle.install_journal.specs.Restored.{IsRestored}
 use Rattle.install_journal.specs.Undoing.{OnDamage}
 use Rattle.install_journal.specs.declared.fault.JournalFault.{JournalFault}
 use Rattle.install_journal.specs.declared.fault.JournalFault.TheVariants.{Failed, Damaged, NoMemory}
 use Rattle.install_journal.proofs.Counting.{restored_same}
-use Rattle.install_journal.proofs.Damages.{looks_back}
 use Rattle.install_journal.proofs.Fixing.{fixed_all}
 use Rattle.install_journal.proofs.Opens.{image_back}
 use Rattle.install_journal.proofs.Preparings.{prepared_closed, moves_itself, looks_move, one_closed}
-use Rattle.install_journal.proofs.Runs.{on_told, on_each, on_both, at_told, step_on, step_both, step_each, step_from, step_then, step_same, Ran, start_at, one, more}
+use Rattle.install_journal.proofs.Runs.{on_told, on_each, at_told, step_on, step_both, step_each, step_then, Ran, start_at, one, more}
 
 pub on_ok : {X E : Type 0} (result : Result X E) (P : Type 0) → P → OnOk result P
 on_ok (Ok x) P p = p

@@ -1,14 +1,11 @@
 -- What is in the directory of the entries is removed.
-use Rattle.std.proofs.Common.{◌≡◌, ◌≢◌, ℕ, zero, suc, ◌+◌, ◌<◌, ◌≤◌, List, [], ◌∷◌, ◌++◌, length, get_or, Option, Some, None, ◌⊎◌, inl, inr, ⊎_elim, refl, sym, ◌∙◌, ap, subst, arith, codes, append_assoc}
+use Rattle.std.proofs.Common.{◌≡◌, ℕ, ◌<◌, ◌≤◌, List, [], ◌∷◌, ◌++◌, length, get_or, Option, Some, None, ◌⊎◌, inl, inr, ⊎_elim, refl, sym, ◌∙◌, ap, subst, arith}
 use Rattle.std.specs.Prelude.{IsSome, is_some}
-use Rattle.std.proofs.lemmas.Bool.{false≢true}
 use Rattle.std.proofs.lemmas.List.{get_or_default}
-use Rattle.std.specs.Bool.{⊤}
 use Rattle.folder_core.specs.Folder.{Map, Told, IsFormed, IsKid, CanSet, SameBut, set_at}
 use Rattle.folder_core.specs.Crash.{IsImage}
 use Rattle.folder_core.specs.Name.{AreThose}
 use Rattle.folder_core.specs.Node.{entries_path}
-use Rattle.folder_core.specs.Path.{parent}
 use Rattle.folder_core.specs.Step.{OnTold, Step}
 use Rattle.folder_core.specs.declared.node.Node.{Node}
 use Rattle.folder_core.specs.declared.node.Node.TheVariants.{Dir}
@@ -17,7 +14,7 @@ use Rattle.install_journal.specs.Preparing.{IsLeft, HasFlatEntries, HasNoEntries
 use Rattle.backup_store.specs.Places.{gate_path}
 use Rattle.install_journal.proofs.Closings.{nothing_below_other}
 use Rattle.install_journal.proofs.Firsts.{is_some_dir}
-use Rattle.install_journal.proofs.Runs.{on_each, on_both, step_on, step_both, step_then, step_same}
+use Rattle.install_journal.proofs.Runs.{on_each, on_both, step_on, step_then, step_same}
 
 -- Nothing is put anywhere.
 abbrev pub OnlyLoses : Map → Map → Type 0
@@ -105,9 +102,9 @@ pub all_gone : (fn now : Option Told) (entries : List (List ℕ)) (names : List 
     → OnTold now (λ t. HasNoEntries t.now)
 all_gone fn now entries names place is image those loses gone all directory =
     let lost : OnTold now (λ t. (name : List ℕ) → (t.now (entries ++ name ∷ []) ≡ None) ⊎ ((i : ℕ) × ((i < length names) × (get_or names i [] ≡ name)))) =
-        step_on fn now (λ s. IsImage s s.now × AreThose (IsKid s.now entries) names) (λ t. (name : List ℕ) → (t.now (entries ++ name ∷ []) ≡ None) ⊎ ((i : ℕ) × ((i < length names) × (get_or names i [] ≡ name)))) (λ s t. OnlyLoses s.now t.now)
-        (on_both fn (λ s. IsImage s s.now) (λ s. AreThose (IsKid s.now entries) names) image those) loses
-        (λ s t here lose name. kid_or_none s.now t.now entries names name here.0.formed here.1 lose (s.now (entries ++ name ∷ [])) refl) in
+    step_on fn now (λ s. IsImage s s.now × AreThose (IsKid s.now entries) names) (λ t. (name : List ℕ) → (t.now (entries ++ name ∷ []) ≡ None) ⊎ ((i : ℕ) × ((i < length names) × (get_or names i [] ≡ name)))) (λ s t. OnlyLoses s.now t.now)
+    (on_both fn (λ s. IsImage s s.now) (λ s. AreThose (IsKid s.now entries) names) image those) loses
+    (λ s t here lose name. kid_or_none s.now t.now entries names name here.0.formed here.1 lose (s.now (entries ++ name ∷ [])) refl) in
     on_each now (λ t. ((t.now entries_path ≡ Some Dir) × ((i : ℕ) → i < place → t.now (entries ++ get_or names i [] ∷ []) ≡ None)) × ((name : List ℕ) → (t.now (entries ++ name ∷ []) ≡ None) ⊎ ((i : ℕ) × ((i < length names) × (get_or names i [] ≡ name))))) (λ t. HasNoEntries t.now)
     (λ t both. record {
       directory = both.0.0;

@@ -1,17 +1,16 @@
 -- The gate is closed.
-use Rattle.std.proofs.Common.{◌≡◌, ◌≢◌, ℕ, ◌≤◌, List, [], ◌∷◌, ◌++◌, Option, Some, None, Result, Ok, Err, OnErr, Contains, ◌⊎◌, inl, inr, ⊎_elim, refl, sym, ◌∙◌, ap, subst, arith, codes, append_assoc}
-use Rattle.folder_core.specs.Folder.{Map, Told, IsFormed, CanSet, SameBut, set_at}
+use Rattle.std.proofs.Common.{◌≡◌, ◌≢◌, ℕ, List, [], ◌∷◌, ◌++◌, Option, Some, None, Result, Ok, Err, OnErr, Contains, ⊎_elim, refl, sym, ◌∙◌, ap, subst, arith, append_assoc}
+use Rattle.folder_core.specs.Folder.{Map, Told, IsFormed, CanSet}
 use Rattle.folder_core.specs.Crash.{IsImage, Touches, Narrows, Elapses, LeavesOnly}
-use Rattle.folder_core.specs.Path.{parent}
 use Rattle.folder_core.specs.Step.{OnTold, Step}
 use Rattle.folder_core.specs.declared.node.Node.{Node}
 use Rattle.folder_core.specs.declared.node.Node.TheVariants.{File, Dir}
 use Rattle.folder_core.proofs.Maps.{parent-push}
 use Rattle.backup_store.specs.Held.{IsFileOf, gate_text, IsOpen as OpensGate}
 use Rattle.backup_store.specs.Places.{gate_path}
-use Rattle.install_journal.specs.Closing.{IsSynced, IsButGate, TouchesGate, IsClosed}
+use Rattle.install_journal.specs.Closing.{IsSynced, IsButGate, TouchesGate}
 use Rattle.install_journal.proofs.Opens.{image_back}
-use Rattle.install_journal.proofs.Runs.{on_told, at_told, on_each, on_both, step_on, step_each, step_both, step_then, step_from, Ran, start_at, one}
+use Rattle.install_journal.proofs.Runs.{on_told, at_told, step_both, step_then, step_from, Ran, start_at, one}
 
 none_or_some : (o : Option Node) → ((x : Node) → o ≡ Some x → ⊥) → o ≡ None
 none_or_some None h = refl

@@ -1,24 +1,19 @@
 -- Which entries count in a map, and what it restores to.
-use Rattle.std.proofs.Common.{◌≡◌, ◌≢◌, ℕ, zero, suc, ◌+◌, ◌<◌, ◌≤◌, List, [], ◌∷◌, ◌++◌, length, get_or, take, ◌-◌, Option, Some, None, ◌⊎◌, inl, inr, ⊎_elim, refl, sym, ◌∙◌, ap, subst, arith, codes}
+use Rattle.std.proofs.Common.{◌≡◌, ◌≢◌, ℕ, suc, ◌+◌, ◌<◌, List, [], ◌∷◌, length, get_or, take, ◌-◌, Option, Some, None, ◌⊎◌, inl, inr, ⊎_elim, refl, sym, ◌∙◌, ap, subst, arith, codes}
 use Rattle.std.proofs.lemmas.List.{ext_get_or}
 use Rattle.std.proofs.lemmas.Slice.Eq.{bytes_eq-Decides}
 use Rattle.std.proofs.lemmas.Bool.{cases_Bool, both_ways}
-use Rattle.std.specs.Bool.{Decides}
 use Rattle.std.specs.Str.{bytes_eq}
 use Rattle.folder_core.specs.Folder.{Map, IsFormed}
-use Rattle.folder_core.specs.Path.{IsPath, parent}
-use Rattle.folder_core.specs.Node.{IsNode, IsSmallAt}
+use Rattle.folder_core.specs.Path.{parent}
 use Rattle.folder_core.specs.declared.node.Node.{Node}
 use Rattle.folder_core.specs.declared.node.Node.TheVariants.{File, Dir, Link}
-use Rattle.folder_core.proofs.Maps.{same_path}
-use Rattle.backup_store.specs.Entry.{IsEntry}
-use Rattle.backup_store.specs.EntryText.{entry_text}
-use Rattle.backup_store.specs.Held.{IsFileOf, Counts, HoldsEntry, gate_text, mark_text, IsOpen as OpensGate}
-use Rattle.backup_store.specs.Places.{IsOutside, gate_path, entry_path, mark_path}
+use Rattle.backup_store.specs.Held.{IsFileOf, gate_text, IsOpen as OpensGate}
+use Rattle.backup_store.specs.Places.{IsOutside, gate_path}
 use Rattle.backup_store.specs.declared.entry.Entry.{Entry}
 use Rattle.install_journal.specs.Overlay.{no_entry, overlay, Covers, SameOutside}
 use Rattle.install_journal.specs.Kept.{Serves}
-use Rattle.install_journal.specs.Restored.{AreCounted, CanOverlay, IsPutBack, IsRestored, RestoresLike}
+use Rattle.install_journal.specs.Restored.{AreCounted, IsRestored, RestoresLike}
 use Rattle.install_journal.proofs.Overlays.{covers_or_not, overlay_uncovered, outside_parent, outside_root, outside_below}
 use Rattle.install_journal.proofs.Unique.{holds_one_path, holds_one_node}
 

@@ -1,10 +1,10 @@
 -- What the journal didn't put there.
-use Rattle.std.proofs.Common.{◌≡◌, ◌≢◌, ℕ, zero, suc, ◌+◌, ◌<◌, ◌≤◌, Bool, true, false, List, [], ◌∷◌, ◌++◌, length, get_or, Option, Some, None, Contains, ◌⊎◌, inl, inr, ⊎_elim, refl, sym, ◌∙◌, ap, subst, arith, codes, append_assoc}
+use Rattle.std.proofs.Common.{◌≡◌, ℕ, ◌<◌, ◌≤◌, Bool, false, List, [], ◌∷◌, ◌++◌, length, get_or, Option, Some, None, ◌⊎◌, inl, inr, ⊎_elim, refl, sym, ◌∙◌, ap, subst, arith, codes, append_assoc}
 use Rattle.std.specs.Prelude.{IsSome, is_some}
 use Rattle.std.proofs.lemmas.Bool.{false≢true}
 use Rattle.std.proofs.lemmas.List.{get_or_default}
 use Rattle.folder_core.specs.Folder.{Map, Told, IsFormed, IsKid}
-use Rattle.folder_core.specs.Crash.{IsImage, Elapses}
+use Rattle.folder_core.specs.Crash.{IsImage}
 use Rattle.folder_core.specs.Name.{AreThose}
 use Rattle.folder_core.specs.Node.{entries_path}
 use Rattle.folder_core.specs.Step.{OnTold, Step}

@@ -1,26 +1,25 @@
 -- A change is finished.
-use Rattle.std.proofs.Common.{◌≡◌, ◌≢◌, ℕ, ◌+◌, ◌<◌, ◌≤◌, List, [], ◌∷◌, ◌++◌, length, Option, Some, None, ◌⊎◌, inl, inr, ⊎_elim, refl, sym, ◌∙◌, ap, subst, arith, codes}
-use Rattle.folder_core.specs.Folder.{Map, Told, IsFormed, SameBut, set_at}
-use Rattle.folder_core.specs.Crash.{IsImage, Touches, Narrows, Elapses, LeavesOnly}
+use Rattle.std.proofs.Common.{◌≡◌, ◌≢◌, ℕ, ◌+◌, List, [], length, Option, Some, None, inl, inr, ⊎_elim, refl, sym, ◌∙◌, ap, subst}
+use Rattle.folder_core.specs.Folder.{Map, Told, SameBut}
+use Rattle.folder_core.specs.Crash.{IsImage, Elapses, LeavesOnly}
 use Rattle.folder_core.specs.Step.{OnTold, Step}
-use Rattle.folder_core.specs.declared.node.Node.{Node}
 use Rattle.folder_core.proofs.Moments.{weaker}
 use Rattle.folder_core.proofs.Maps.{changed_here, changed_other}
-use Rattle.backup_store.specs.Held.{Counts, HoldsEntry, gate_text, mark_text, IsOpen as OpensGate}
+use Rattle.backup_store.specs.Held.{gate_text, mark_text, IsOpen as OpensGate}
 use Rattle.backup_store.specs.Places.{IsOutside, gate_path, entry_path, mark_path}
 use Rattle.backup_store.specs.declared.entry.Entry.{Entry}
 use Rattle.install_journal.specs.Closing.{IsSynced, IsButGate, IsClosed, OldOrNew}
-use Rattle.install_journal.specs.Kept.{AreKept, Serves}
+use Rattle.install_journal.specs.Kept.{AreKept}
 use Rattle.install_journal.specs.Open.{IsOpen}
 use Rattle.install_journal.specs.Overlay.{SameOutside}
 use Rattle.install_journal.specs.Restored.{IsRestored, RestoresLike, RestoresSame, IsSettled}
 use Rattle.install_journal.specs.declared.change.Change.{Change}
 use Rattle.install_journal.proofs.Closings.{nothing_touched}
-use Rattle.install_journal.proofs.Counting.{closed_restores, is_file_or_not, restores_alike, same_outside_sym}
+use Rattle.install_journal.proofs.Counting.{closed_restores, is_file_or_not, restores_alike}
 use Rattle.install_journal.proofs.Fixing.{fixed_synced, fixed_image}
-use Rattle.install_journal.proofs.Keeps.{Shows, kept_shows, kept_restores, kept_goes_on, shows_old, no_file, text_image}
+use Rattle.install_journal.proofs.Keeps.{kept_shows, kept_restores, kept_goes_on, shows_old, no_file, text_image}
 use Rattle.install_journal.proofs.Opens.{open_restores, open_stays}
-use Rattle.install_journal.proofs.Runs.{on_told, on_each, on_both, at_told, step_on, step_both, step_each, step_from, step_then, Ran, start_at, one, more, weaken}
+use Rattle.install_journal.proofs.Runs.{on_told, on_each, on_both, at_told, step_on, step_then, Ran, start_at, one, more, weaken}
 
 -- a map that differs from an image at the gate alone, where the gate is open
 pub but_gate_old : (entries : List Entry) (old : Map) (s : Told) (n m : Map) → AreKept entries old s → IsImage s n → IsButGate n m → OpensGate m → IsRestored m old
@@ -88,7 +87,6 @@ module _ {D : Type 0} (told : D → Option Told) (left_since : D → ℕ → Map
     (began : OnTold (told old) (IsOpen change))
     (image : OnTold (told old) (λ s. IsImage s s.now))
     (only : OnTold (told old) (λ s. (m : Map) → left_since old s.moment m → IsImage s m)) where
-
   -- before the first call
   pub same_restores : RestoresSame told left_since old old
   same_restores = on_told (told old) _ (λ s e.
@@ -105,7 +103,6 @@ module _ {D : Type 0} (told : D → Option Told) (left_since : D → ℕ → Map
       (synced : Step (told old) (told mid) (λ s t. t.synced ≡ s.now))
       (settled : Step (told old) (told mid) (λ s t. t.touched ≡ []))
       (time : Step (told old) (told mid) (λ s t. Elapses s.moment t.moment (left_since old) (left_since mid) (IsImage t))) where
-
     pub mid_open : OnTold (told mid) (IsOpen change)
     mid_open = step_on (told old) (told mid) (λ s. IsOpen change s × IsImage s s.now) (IsOpen change) Synced
         (on_both (told old) (IsOpen change) (λ s. IsImage s s.now) began image)

@@ -1,7 +1,7 @@
 -- The first child of a directory.
-use Rattle.std.proofs.Common.{◌≡◌, ◌≢◌, ℕ, zero, suc, ◌<◌, List, [], ◌∷◌, ◌++◌, length, get_or, Option, Some, None, Contains, refl, sym, ◌∙◌, ap, subst, arith}
+use Rattle.std.proofs.Common.{◌≡◌, ℕ, List, [], ◌∷◌, ◌++◌, Option, Some, None, Contains, refl, sym, ◌∙◌, ap, subst, arith}
 use Rattle.std.proofs.lemmas.Bool.{false≢true}
-use Rattle.std.specs.Prelude.{slice_get, ◌↔◌, IsSome}
+use Rattle.std.specs.Prelude.{slice_get, IsSome}
 use Rattle.folder_core.specs.Folder.{Map, Told, IsFormed, IsKid}
 use Rattle.folder_core.specs.Crash.{IsImage}
 use Rattle.folder_core.specs.Name.{AreThose}

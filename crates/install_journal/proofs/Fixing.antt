@@ -1,5 +1,5 @@
 -- What no crash can change goes on standing.
-use Rattle.std.proofs.Common.{◌≡◌, ◌≢◌, ℕ, List, [], Option, Contains, ◌⊎◌, inl, inr, ⊎_elim, refl, sym, ◌∙◌, ap, subst, arith}
+use Rattle.std.proofs.Common.{◌≡◌, ◌≢◌, ℕ, List, [], Option, Contains, ⊎_elim, ◌∙◌, ap, subst, arith}
 use Rattle.folder_core.specs.Folder.{Map, Told}
 use Rattle.folder_core.specs.Crash.{IsImage, Touches}
 use Rattle.folder_core.specs.declared.node.Node.{Node}

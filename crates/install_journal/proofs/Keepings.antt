@@ -1,24 +1,23 @@
 -- One entry more is kept: what becomes of the others, and what a crash leaves meanwhile.
-use Rattle.std.proofs.Common.{◌≡◌, ◌≢◌, ℕ, zero, suc, ◌+◌, ◌<◌, ◌≤◌, List, [], ◌∷◌, ◌++◌, length, get_or, Option, Some, None, Contains, ◌⊎◌, inl, inr, ⊎_elim, refl, sym, ◌∙◌, ap, subst, arith, codes}
+use Rattle.std.proofs.Common.{◌≡◌, ◌≢◌, ℕ, zero, suc, ◌+◌, ◌<◌, ◌≤◌, List, [], ◌∷◌, ◌++◌, length, Option, Some, None, Contains, ◌⊎◌, inl, inr, ⊎_elim, sym, ◌∙◌, ap, subst, arith}
 use Rattle.folder_core.specs.Folder.{Map, Told, IsFormed, CanSet}
-use Rattle.folder_core.specs.Crash.{IsImage, Touches}
+use Rattle.folder_core.specs.Crash.{IsImage}
 use Rattle.folder_core.specs.Node.{entries_path}
 use Rattle.folder_core.specs.declared.node.Node.{Node}
-use Rattle.folder_core.specs.declared.node.Node.TheVariants.{File, Dir}
+use Rattle.folder_core.specs.declared.node.Node.TheVariants.{Dir}
 use Rattle.backup_store.specs.Entry.{IsEntry}
-use Rattle.backup_store.specs.EntryText.{entry_text}
-use Rattle.backup_store.specs.Held.{IsFileOf, Counts, HoldsEntry, gate_text, mark_text}
-use Rattle.backup_store.specs.Keeping.{IsUnmarked, IsWritten, LeavesEntry, IsBegun, IsSynced, HasCome, IsKept}
+use Rattle.backup_store.specs.Held.{mark_text}
+use Rattle.backup_store.specs.Keeping.{LeavesEntry, HasCome, IsKept}
 use Rattle.backup_store.specs.Places.{IsOutside, gate_path, entry_path, mark_path}
 use Rattle.backup_store.specs.declared.entry.Entry.{Entry}
 use Rattle.install_journal.specs.Fixed.{IsFixed, IsFixedFile}
-use Rattle.install_journal.specs.Overlay.{entry_at, Covers, SameOutside}
-use Rattle.install_journal.specs.Kept.{Serves, AreKept, IsStray, IsHarmless, IsTextFixed, IsFree, entry_of}
+use Rattle.install_journal.specs.Overlay.{Covers}
+use Rattle.install_journal.specs.Kept.{Serves, AreKept, IsTextFixed, IsFree, entry_of}
 use Rattle.install_journal.specs.Restored.{IsRestored}
 use Rattle.install_journal.proofs.Apart.{entry_apart, mark_apart, entry_mark_apart}
 use Rattle.install_journal.proofs.Fixing.{fixed_image, fixed_touches}
-use Rattle.install_journal.proofs.Keeps.{Shows, kept_shows, kept_moves, shows_old, no_file, length_push, each_push}
-use Rattle.install_journal.proofs.Overlays.{covers_front, covers_push, serves_push}
+use Rattle.install_journal.proofs.Keeps.{Shows, kept_moves, shows_old, no_file, length_push, each_push}
+use Rattle.install_journal.proofs.Overlays.{covers_front, serves_push}
 
 contains_cons : (first path : List (List ℕ)) (l : List (List (List ℕ))) → Contains (first ∷ l) path → (path ≡ first) ⊎ Contains l path
 contains_cons first path l (zero, below, at) = inl (sym at)
@@ -33,7 +32,6 @@ fixed_settled t path stands synced settled is = record {
 -- what begins at the place of the next entry
 module _ (entries : List Entry) (old : Map) (s : Told) (path : List (List ℕ)) (kept : AreKept entries old s) (free : IsFree entries s)
     (image : IsImage s s.now) (outside : IsOutside path) (can : CanSet s.now path) where
-
   abbrev number : ℕ
   number = length entries + 1
 
@@ -61,10 +59,13 @@ module _ (entries : List Entry) (old : Map) (s : Told) (path : List (List ℕ)) 
         serves = pushed_serves;
         text = record {
           is_entry = synced.written.holds.entry;
-          file = (synced.written.holds.file.0, record {
-            untouched = λ is. entry_mark_apart number number (let most = kept.most in omega arith) (synced.touched (entry_path number) is);
-            synced = synced.written.holds.file.1;
-          });
+          file = (
+            synced.written.holds.file.0,
+            record {
+              untouched = λ is. entry_mark_apart number number (let most = kept.most in omega arith) (synced.touched (entry_path number) is);
+              synced = synced.written.holds.file.1;
+            },
+          );
         };
       }))
 
@@ -77,14 +78,20 @@ module _ (entries : List Entry) (old : Map) (s : Told) (path : List (List ℕ)) 
       record {
         formed = formed;
         gate = (kept.gate.0, at gate_path _ (λ e. cc) (λ e. cc) kept.gate.1);
-        marks = λ place below. let file = kept.marks place below in (file.0, at (mark_path (place + 1)) _
-            (λ e. entry_mark_apart number (place + 1) (omega arith) (sym e))
-            (mark_apart (place + 1) number (omega arith) (omega arith) (λ e. absurd (omega arith))) file.1);
+        marks = λ place below. let file = kept.marks place below in (
+          file.0,
+          at (mark_path (place + 1)) _
+              (λ e. entry_mark_apart number (place + 1) (omega arith) (sym e))
+              (mark_apart (place + 1) number (omega arith) (omega arith) (λ e. absurd (omega arith))) file.1,
+        );
         texts = λ place below. let text = kept.texts place below in record {
           entry = text.is_entry;
-          file = (text.file.0, at (entry_path (place + 1)) _
-              (entry_apart (place + 1) number (omega arith) (omega arith) (λ e. absurd (omega arith)))
-              (entry_mark_apart (place + 1) number (omega arith)) text.file.1);
+          file = (
+            text.file.0,
+            at (entry_path (place + 1)) _
+                (entry_apart (place + 1) number (omega arith) (omega arith) (λ e. absurd (omega arith)))
+                (entry_mark_apart (place + 1) number (omega arith)) text.file.1,
+          );
         };
         rest = λ place out none. at place (old place) (λ e. out _ e) (λ e. out _ e) (kept.rest place out none);
         later = λ n above small. at (mark_path n) None
@@ -141,16 +148,22 @@ module _ (entries : List Entry) (old : Map) (s : Told) (path : List (List ℕ)) 
           gate = (kept.gate.0, stays gate_path _ (λ e. cc) (λ e. cc) kept.gate.1);
           directory = stays entries_path (Some Dir) (λ e. cc) (λ e. cc) kept.directory;
           marks = each_push (λ place e. IsFixedFile t (mark_path (place + 1)) mark_text) entries (entry_of s.now path)
-              (λ place below. let file = kept.marks place below in (file.0, stays (mark_path (place + 1)) _
-              (λ e. entry_mark_apart number (place + 1) (omega arith) (sym e))
-              (mark_apart (place + 1) number (omega arith) (omega arith) (λ e. absurd (omega arith))) file.1))
+              (λ place below. let file = kept.marks place below in (
+                file.0,
+                stays (mark_path (place + 1)) _
+                    (λ e. entry_mark_apart number (place + 1) (omega arith) (sym e))
+                    (mark_apart (place + 1) number (omega arith) (omega arith) (λ e. absurd (omega arith))) file.1,
+              ))
               (420, fixed_then (mark_path number) _ is_kept.mark);
           texts = each_push (λ place e. IsTextFixed t (place + 1) e) entries (entry_of s.now path)
               (λ place below. let text = kept.texts place below in record {
                 is_entry = text.is_entry;
-                file = (text.file.0, stays (entry_path (place + 1)) _
-                    (entry_apart (place + 1) number (omega arith) (omega arith) (λ e. absurd (omega arith)))
-                    (entry_mark_apart (place + 1) number (omega arith)) text.file.1);
+                file = (
+                  text.file.0,
+                  stays (entry_path (place + 1)) _
+                      (entry_apart (place + 1) number (omega arith) (omega arith) (λ e. absurd (omega arith)))
+                      (entry_mark_apart (place + 1) number (omega arith)) text.file.1,
+                );
               })
               (record { is_entry = is_entry; file = (420, fixed_then (entry_path number) _ is_kept.entry) });
           rest = λ place out none. stays place (old place) (λ e. out _ e) (λ e. out _ e)

@@ -1,28 +1,26 @@
 -- The entries of a change go on being kept, and serve the old installation in each image.
-use Rattle.std.proofs.Common.{◌≡◌, ◌≢◌, ℕ, zero, suc, ◌+◌, ◌<◌, ◌≤◌, List, [], ◌∷◌, ◌++◌, length, get_or, Option, Some, None, Contains, ◌⊎◌, inl, inr, ⊎_elim, refl, sym, ◌∙◌, ap, subst, arith, codes, length-append}
+use Rattle.std.proofs.Common.{◌≡◌, ◌≢◌, ℕ, ◌+◌, ◌<◌, ◌≤◌, List, [], ◌∷◌, ◌++◌, length, Option, Some, None, inl, inr, ⊎_elim, refl, sym, subst, arith, codes, length-append}
 use Rattle.std.proofs.lemmas.Bool.{cases_lt}
 use Rattle.std.proofs.lemmas.List.{get_or_append_left}
 use Rattle.std.proofs.Math.Nat.{eq-or-lt_of_le}
 use Rattle.std.proofs.Math.Seq.{get_or-append_seam}
-use Rattle.folder_core.specs.Folder.{Map, Told, IsFormed, CanSet}
-use Rattle.folder_core.specs.Crash.{IsImage, Touches}
+use Rattle.folder_core.specs.Folder.{Map, Told, IsFormed}
+use Rattle.folder_core.specs.Crash.{IsImage}
 use Rattle.folder_core.specs.Node.{entries_path}
 use Rattle.folder_core.specs.declared.node.Node.{Node}
-use Rattle.folder_core.specs.declared.node.Node.TheVariants.{File, Dir}
-use Rattle.backup_store.specs.Entry.{IsEntry}
+use Rattle.folder_core.specs.declared.node.Node.TheVariants.{Dir}
 use Rattle.backup_store.specs.EntryText.{entry_text}
 use Rattle.backup_store.specs.Held.{IsFileOf, Counts, HoldsEntry, gate_text, mark_text, IsOpen as OpensGate}
-use Rattle.backup_store.specs.Keeping.{IsUnmarked, IsWritten, LeavesEntry, IsBegun, IsSynced, HasCome, IsKept}
 use Rattle.backup_store.specs.Places.{IsOutside, gate_path, entry_path, mark_path}
 use Rattle.backup_store.specs.declared.entry.Entry.{Entry}
 use Rattle.install_journal.specs.Fixed.{IsFixed, IsFixedFile}
-use Rattle.install_journal.specs.Overlay.{no_entry, entry_at, overlay, Covers, SameOutside}
-use Rattle.install_journal.specs.Kept.{Serves, AreKept, IsStray, IsHarmless, IsTextFixed, IsFree, entry_of}
-use Rattle.install_journal.specs.Restored.{AreCounted, IsRestored}
+use Rattle.install_journal.specs.Overlay.{no_entry, entry_at, Covers}
+use Rattle.install_journal.specs.Kept.{Serves, AreKept, IsStray, IsHarmless, IsTextFixed, IsFree}
+use Rattle.install_journal.specs.Restored.{IsRestored}
 use Rattle.install_journal.proofs.Apart.{entry_apart, mark_apart, entry_mark_apart}
 use Rattle.install_journal.proofs.Counting.{serve_restores, is_file_or_not}
-use Rattle.install_journal.proofs.Fixing.{fixed_image, fixed_touches}
-use Rattle.install_journal.proofs.Overlays.{covers_or_not, covers_front, covers_push, serves_push}
+use Rattle.install_journal.proofs.Fixing.{fixed_image}
+use Rattle.install_journal.proofs.Overlays.{covers_front}
 
 -- What a map shows of entries that are kept.
 pub record Shows (entries : List Entry) (old m : Map) : Type 0 where
@@ -120,7 +118,7 @@ inside_uncovered entries old rest serves covers = serves.outside (codes ".p2" �
 -- The entries go on being kept, where all that is fixed stays so but at their paths and at the places of the next entry.
 pub kept_moves : (entries : List Entry) (old : Map) (s t : Told) → AreKept entries old s
     → ((path : List (List ℕ)) (stands : Option Node) → ¬ (Covers entries path) → path ≢ entry_path (length entries + 1) → path ≢ mark_path (length entries + 1)
-        → IsFixed s path stands → IsFixed t path stands)
+    → IsFixed s path stands → IsFixed t path stands)
     → IsHarmless entries old t
     → AreKept entries old t
 kept_moves entries old s t kept goes harmless =

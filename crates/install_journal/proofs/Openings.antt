@@ -1,27 +1,24 @@
 -- The gate is opened.
-use Rattle.std.proofs.Common.{◌≡◌, ◌≢◌, ℕ, zero, suc, ◌+◌, ◌<◌, ◌≤◌, true, false, List, [], ◌∷◌, ◌++◌, length, Option, Some, None, Contains, ◌⊎◌, inl, inr, ⊎_elim, refl, sym, ◌∙◌, ap, subst, arith, codes, lit≤}
-use Rattle.std.specs.Option.{IfSome}
+use Rattle.std.proofs.Common.{◌≡◌, ◌≢◌, ℕ, List, [], ◌∷◌, Option, Some, None, Contains, inl, inr, refl, sym, ◌∙◌, ap, subst, arith, codes, lit≤}
 use Rattle.std.proofs.lemmas.List.Elements.{All-nil, All-cons}
-use Rattle.folder_core.specs.Folder.{Map, Told, IsFormed, CanSet, SameBut, set_at}
+use Rattle.folder_core.specs.Folder.{Map, Told, IsFormed, CanSet, set_at}
 use Rattle.folder_core.specs.Crash.{IsImage, Touches, Narrows, Elapses, LeavesOnly}
 use Rattle.folder_core.specs.Name.{IsName}
-use Rattle.folder_core.specs.Node.{entries_path, IsNode, IsSmallAt}
+use Rattle.folder_core.specs.Node.{entries_path}
 use Rattle.folder_core.specs.Path.{IsPath}
 use Rattle.folder_core.specs.Step.{OnTold, Step}
 use Rattle.folder_core.specs.declared.node.Node.{Node}
 use Rattle.folder_core.specs.declared.node.Node.TheVariants.{File, Dir}
 use Rattle.folder_core.proofs.Maps.{same_path, changed_here, changed_other, IsFormed-set_at}
 use Rattle.folder_core.proofs.Moments.{weaker}
-use Rattle.backup_store.specs.Held.{gate_text, mark_text, IsOpen as OpensGate}
-use Rattle.backup_store.specs.Places.{IsOutside, gate_path, entry_path, mark_path}
-use Rattle.install_journal.specs.Closing.{IsSynced, IsButGate, TouchesGate, MayBeOpen}
+use Rattle.backup_store.specs.Held.{gate_text, mark_text}
+use Rattle.backup_store.specs.Places.{gate_path, entry_path, mark_path}
+use Rattle.install_journal.specs.Closing.{IsSynced, IsButGate, MayBeOpen}
 use Rattle.install_journal.specs.Fixed.{IsFixed}
-use Rattle.install_journal.specs.Kept.{AreKept}
 use Rattle.install_journal.specs.Open.{IsOpen}
-use Rattle.install_journal.specs.Overlay.{SameOutside}
 use Rattle.install_journal.specs.Preparing.{IsFresh, begun}
 use Rattle.install_journal.specs.Restored.{IsRestored}
-use Rattle.install_journal.proofs.Closings.{set_leaves, sync_leaves, nothing_touched}
+use Rattle.install_journal.proofs.Closings.{set_leaves, sync_leaves}
 use Rattle.install_journal.proofs.Counting.{serve_restores, closed_restores, is_file_or_not}
 use Rattle.install_journal.proofs.Fixing.{fixed_all}
 use Rattle.install_journal.proofs.Keeps.{no_file}
@@ -55,14 +52,19 @@ fresh_but s m fresh formed but = elim (is_file_or_not gate_text (m gate_path)) [
 
 may_open : (s u : Told) → IsFresh s → IsFormed s.now → u.synced ≡ s.synced → Contains u.touched gate_path → MayBeOpen u
 may_open s u fresh formed synced touched =
-    let m = set_at s.now gate_path (Some open_file) in
-    (m, (record {
-      formed = IsFormed-set_at s.now gate_path (Some open_file) formed (can_open s fresh) gate_is_path (lit≤ tt) (λ outside. lit≤ tt);
-      untouched = λ path none. elim (same_path path gate_path) [
-        | inl here ↦ absurd (none (subst (Contains u.touched) (sym here) touched))
-        | inr apart ↦ changed_other s.now gate_path (Some open_file) path apart ∙ ap (λ (x : Map). x path) (sym (synced ∙ fresh.synced.synced))
-      ];
-    }, (420, changed_here s.now gate_path (Some open_file) gate_path refl)))
+    let m = set_at s.now gate_path (Some open_file) in (
+      m,
+      (
+        record {
+          formed = IsFormed-set_at s.now gate_path (Some open_file) formed (can_open s fresh) gate_is_path (lit≤ tt) (λ outside. lit≤ tt);
+          untouched = λ path none. elim (same_path path gate_path) [
+            | inl here ↦ absurd (none (subst (Contains u.touched) (sym here) touched))
+            | inr apart ↦ changed_other s.now gate_path (Some open_file) path apart ∙ ap (λ (x : Map). x path) (sym (synced ∙ fresh.synced.synced))
+          ];
+        },
+        (420, changed_here s.now gate_path (Some open_file) gate_path refl),
+      ),
+    )
 
 begun_open : (s u t : Told) → IsFresh s → IsFormed s.now → u.now ≡ set_at s.now gate_path (Some open_file) → t.now ≡ u.now → t.synced ≡ u.now → t.touched ≡ [] → IsOpen begun t
 begun_open s u t fresh formed set now synced settled =

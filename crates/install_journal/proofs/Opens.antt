@@ -1,28 +1,40 @@
 -- A change stays open over the calls that are made on it.
-use Rattle.std.proofs.Common.{◌≡◌, ℕ, ◌≤◌, List, Option, Some, None, Contains, false, true, refl, sym, ◌∙◌, ap, subst, arith}
+use Rattle.std.proofs.Common.{◌≡◌, ℕ, List, Option, Some, None, Contains, false, sym, ◌∙◌, ap, subst}
 use Rattle.folder_core.specs.Folder.{Map, Told}
-use Rattle.folder_core.specs.Crash.{IsImage, Elapses, LeavesOnly}
+use Rattle.folder_core.specs.Crash.{IsImage, Elapses}
 use Rattle.folder_core.specs.Step.{OnTold, Step}
 use Rattle.folder_core.specs.declared.node.Node.{Node}
 use Rattle.install_journal.specs.Fixed.{IsFixed}
-use Rattle.install_journal.specs.Kept.{AreKept, Undoes, IsFree}
+use Rattle.install_journal.specs.Kept.{Undoes}
 use Rattle.install_journal.specs.Looks.{Looks, OnlyLooks}
 use Rattle.install_journal.specs.Open.{IsOpen, spoiled}
 use Rattle.install_journal.specs.Restored.{RestoresLike, RestoresSame}
 use Rattle.install_journal.specs.declared.change.Change.{Change}
-use Rattle.install_journal.proofs.Counting.{restores_alike, restores_itself}
+use Rattle.install_journal.proofs.Counting.{restores_alike}
 use Rattle.install_journal.proofs.Fixing.{fixed_same}
 use Rattle.install_journal.proofs.Keeps.{kept_restores, kept_goes_on, free_goes_on}
-use Rattle.install_journal.proofs.Runs.{on_told, on_each, at_told, step_on, step_each, Ran, start_at, one}
+use Rattle.install_journal.proofs.Runs.{on_told, at_told, step_on, step_each, start_at, one}
 
 pub open_spoiled : (change : Change) (s : Told) → IsOpen change s → IsOpen (spoiled change) s
 open_spoiled change s is = record {
-  entries = is.entries; old = is.old; count = is.count; left = is.left; kept = is.kept; undoes = is.undoes; all_left = is.all_left; free = is.free;
+  entries = is.entries;
+  old = is.old;
+  count = is.count;
+  left = is.left;
+  kept = is.kept;
+  undoes = is.undoes;
+  all_left = is.all_left;
+  free = is.free;
 }
 
 pub open_unready : (change : Change) (s : Told) → IsOpen change s → IsOpen (record change { ready = false }) s
 open_unready change s is = record {
-  entries = is.entries; old = is.old; count = is.count; left = is.left; kept = is.kept; undoes = is.undoes;
+  entries = is.entries;
+  old = is.old;
+  count = is.count;
+  left = is.left;
+  kept = is.kept;
+  undoes = is.undoes;
   all_left = λ no. absurd (let f : ⊥ = cc in f);
   free = λ no. absurd (let f : ⊥ = cc in f);
 }

@@ -1,12 +1,11 @@
 -- What a list of entries makes of a map.
-use Rattle.std.proofs.Common.{◌≡◌, ◌≢◌, ℕ, List, [], ◌∷◌, ◌++◌, Option, Some, None, ◌⊎◌, inl, inr, ⊎_elim, refl, sym, ◌∙◌, ap, subst, arith, append_assoc}
-use Rattle.folder_core.specs.Folder.{Map, IsFormed, CanSet, set_at}
+use Rattle.std.proofs.Common.{◌≡◌, ◌≢◌, ℕ, List, [], ◌∷◌, ◌++◌, None, ◌⊎◌, inl, inr, ⊎_elim, refl, sym, ◌∙◌, ap, subst}
+use Rattle.folder_core.specs.Folder.{Map, CanSet, set_at}
 use Rattle.folder_core.specs.Path.{IsBelow, parent}
 use Rattle.folder_core.proofs.Maps.{same_path, changed_here, changed_other, front_last}
-use Rattle.folder_core.specs.declared.node.Node.{Node}
 use Rattle.backup_store.specs.Places.{IsOutside}
 use Rattle.backup_store.specs.declared.entry.Entry.{Entry}
-use Rattle.install_journal.specs.Overlay.{overlay, Covers, SameOutside}
+use Rattle.install_journal.specs.Overlay.{overlay, Covers}
 use Rattle.install_journal.specs.Kept.{Serves, entry_of}
 
 pub covers_or_not : (entries : List Entry) (path : List (List ℕ)) → Covers entries path ⊎ (¬ (Covers entries path))

@@ -1,24 +1,21 @@
 -- What stands before the gate is opened.
-use Rattle.std.proofs.Common.{◌≡◌, ◌≢◌, ℕ, zero, suc, ◌+◌, ◌<◌, ◌≤◌, Bool, true, false, List, [], ◌∷◌, ◌++◌, length, get_or, Option, Some, None, Result, Ok, Err, OnOk, Contains, ◌⊎◌, inl, inr, ⊎_elim, refl, sym, ◌∙◌, ap, subst, arith, codes, append_assoc}
-use Rattle.std.specs.Bool.{⊤}
-use Rattle.folder_core.specs.Folder.{Map, Told, IsFormed, CanSet, SameBut, set_at}
+use Rattle.std.proofs.Common.{◌≡◌, ◌≢◌, ℕ, List, [], Option, Some, None, Result, Ok, Err, OnOk, inl, inr, refl, sym, ◌∙◌, ap, subst}
+use Rattle.folder_core.specs.Folder.{Map, Told, CanSet, SameBut, set_at}
 use Rattle.folder_core.specs.Crash.{IsImage, Touches, Elapses, LeavesOnly}
 use Rattle.folder_core.specs.Path.{parent}
 use Rattle.folder_core.specs.Step.{OnTold, Step}
 use Rattle.folder_core.specs.declared.node.Node.{Node}
 use Rattle.folder_core.specs.declared.node.Node.TheVariants.{Dir}
-use Rattle.folder_core.proofs.Maps.{changed_here, changed_other, parent-push, push_some}
+use Rattle.folder_core.proofs.Maps.{changed_here}
 use Rattle.backup_store.specs.Held.{IsFileOf, gate_text, IsOpen as OpensGate}
-use Rattle.backup_store.specs.Places.{IsOutside, gate_path}
+use Rattle.backup_store.specs.Places.{gate_path}
 use Rattle.install_journal.specs.Fixed.{IsFixed}
 use Rattle.install_journal.specs.Looks.{Looks, OnlyLooks}
-use Rattle.install_journal.specs.Overlay.{SameOutside}
 use Rattle.install_journal.specs.Preparing.{IsLeft, IsPrepared, Moves, IsClosedOld, LeavesClosed}
-use Rattle.install_journal.specs.Restored.{IsRestored}
 use Rattle.install_journal.proofs.Closings.{nothing_below_other}
 use Rattle.install_journal.proofs.Counting.{closed_restores, restored_same}
 use Rattle.install_journal.proofs.Fixing.{fixed_image, fixed_touches, fixed_same}
-use Rattle.install_journal.proofs.Runs.{on_told, on_each, on_both, at_told, step_on, step_both, step_each, step_from, step_then, Ran, start_at, one, more}
+use Rattle.install_journal.proofs.Runs.{on_told, on_each, on_both, at_told, step_on, step_both, step_each, step_then, start_at, one, more}
 
 pub moves_prepared : (s t : Told) → IsPrepared s → Moves s t → IsPrepared t
 moves_prepared s t prepared moves = record {

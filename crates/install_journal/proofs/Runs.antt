@@ -1,8 +1,8 @@
 -- How a run of calls on a folder goes on: what holds of what is told, and what crashes leave.
-use Rattle.std.proofs.Common.{◌≡◌, inl, inr, ⊎_elim, ℕ, ◌≤◌, Option, Some, None, arith, refl, sym, subst}
+use Rattle.std.proofs.Common.{◌≡◌, inl, inr, ⊎_elim, ℕ, Option, Some, None, arith, refl, sym, subst}
 use Rattle.std.specs.Bool.{⊤}
 use Rattle.folder_core.specs.Folder.{Map, Told}
-use Rattle.folder_core.specs.Crash.{IsImage, MayLeave, AllImages, Elapses, EachLeft, LeavesOnly}
+use Rattle.folder_core.specs.Crash.{IsImage, AllImages, Elapses, EachLeft, LeavesOnly}
 use Rattle.folder_core.specs.Step.{OnTold, Step}
 
 pub on_told : (told : Option Told) (P : Told → Type 0) → ((s : Told) → told ≡ Some s → P s) → OnTold told P

@@ -1,13 +1,12 @@
 -- The journal's directories are set up.
-use Rattle.std.proofs.Common.{◌≡◌, ◌≢◌, ℕ, List, [], ◌∷◌, ◌++◌, Option, Some, None, ◌⊎◌, inl, inr, ⊎_elim, refl, sym, ◌∙◌, ap, subst, codes}
+use Rattle.std.proofs.Common.{◌≡◌, ◌≢◌, ℕ, List, [], ◌∷◌, ◌++◌, Option, Some, None, ⊎_elim, sym, ◌∙◌, ap, subst, codes}
 use Rattle.folder_core.specs.Folder.{Map, Told, SameBut}
 use Rattle.folder_core.specs.Crash.{IsImage}
 use Rattle.folder_core.specs.Node.{entries_path}
 use Rattle.folder_core.specs.Path.{parent}
 use Rattle.folder_core.specs.Step.{OnTold, Step}
-use Rattle.folder_core.specs.declared.node.Node.{Node}
 use Rattle.folder_core.specs.declared.node.Node.TheVariants.{Dir}
-use Rattle.backup_store.specs.Held.{IsFileOf, gate_text, IsOpen as OpensGate}
+use Rattle.backup_store.specs.Held.{IsFileOf, gate_text}
 use Rattle.backup_store.specs.Places.{gate_path}
 use Rattle.install_journal.specs.Preparing.{IsLeft, IsPrepared, Moves, HasFlatEntries, HasNoEntries, IsDamage, IsFresh, Finds, SparesGate, journal_path}
 use Rattle.install_journal.proofs.Damages.{gate_free, entries_flat}
@@ -77,15 +76,15 @@ module _ {D : Type 0} (told : D → Option Told) (left_since : D → ℕ → Map
       → OnTold (told new) IsFresh
   fresh_then old one two three new journal entries is at none made first second spares cleared prepared stays synced settled =
       let below : OnTold (told two) (λ t. (name : List ℕ) (rest : List (List ℕ)) → t.now (gate_path ++ name ∷ rest) ≡ None) =
-          step_on (told old) (told two) (λ s. Finds (IsDamage s.now) None) (λ t. (name : List ℕ) (rest : List (List ℕ)) → t.now (gate_path ++ name ∷ rest) ≡ None) (λ s u. (t : Told) × (SameBut journal s.now t.now × SameBut entries t.now u.now)) none
-          (step_then (told old) (told one) (told two) (λ s t. SameBut journal s.now t.now) (λ s t. SameBut entries s.now t.now) (λ s u. (t : Told) × (SameBut journal s.now t.now × SameBut entries t.now u.now)) first second (λ s t u p q. (t, (p, q))))
-          (λ s u undamaged run. gate_but s.now run.0.now u.now journal entries is at undamaged run.1.0 run.1.1) in
+      step_on (told old) (told two) (λ s. Finds (IsDamage s.now) None) (λ t. (name : List ℕ) (rest : List (List ℕ)) → t.now (gate_path ++ name ∷ rest) ≡ None) (λ s u. (t : Told) × (SameBut journal s.now t.now × SameBut entries t.now u.now)) none
+      (step_then (told old) (told one) (told two) (λ s t. SameBut journal s.now t.now) (λ s t. SameBut entries s.now t.now) (λ s u. (t : Told) × (SameBut journal s.now t.now × SameBut entries t.now u.now)) first second (λ s t u p q. (t, (p, q))))
+      (λ s u undamaged run. gate_but s.now run.0.now u.now journal entries is at undamaged run.1.0 run.1.1) in
       let dir : OnTold (told two) (λ t. t.now journal_path ≡ Some Dir) = step_on (told one) (told two) (λ t. t.now journal ≡ Some Dir) (λ t. t.now journal_path ≡ Some Dir) (λ s t. SameBut entries s.now t.now) made second
-          (λ s t d but. but journal_path (λ e. let x = e ∙ at in let f : ⊥ = cc in f) ∙ ap s.now (sym is) ∙ d) in
+      (λ s t d but. but journal_path (λ e. let x = e ∙ at in let f : ⊥ = cc in f) ∙ ap s.now (sym is) ∙ d) in
       let then : OnTold (told three) (λ u. (u.now journal_path ≡ Some Dir) × ((name : List ℕ) (rest : List (List ℕ)) → u.now (gate_path ++ name ∷ rest) ≡ None)) =
-          step_on (told two) (told three) (λ t. (t.now journal_path ≡ Some Dir) × ((name : List ℕ) (rest : List (List ℕ)) → t.now (gate_path ++ name ∷ rest) ≡ None)) (λ u. (u.now journal_path ≡ Some Dir) × ((name : List ℕ) (rest : List (List ℕ)) → u.now (gate_path ++ name ∷ rest) ≡ None)) (λ s t. SparesGate s.now t.now)
-          (on_both (told two) (λ t. t.now journal_path ≡ Some Dir) (λ t. (name : List ℕ) (rest : List (List ℕ)) → t.now (gate_path ++ name ∷ rest) ≡ None) dir below) spares
-          (λ t u had spare. (spare.journal ∙ had.0, λ name rest. spare.below name rest (had.1 name rest))) in
+      step_on (told two) (told three) (λ t. (t.now journal_path ≡ Some Dir) × ((name : List ℕ) (rest : List (List ℕ)) → t.now (gate_path ++ name ∷ rest) ≡ None)) (λ u. (u.now journal_path ≡ Some Dir) × ((name : List ℕ) (rest : List (List ℕ)) → u.now (gate_path ++ name ∷ rest) ≡ None)) (λ s t. SparesGate s.now t.now)
+      (on_both (told two) (λ t. t.now journal_path ≡ Some Dir) (λ t. (name : List ℕ) (rest : List (List ℕ)) → t.now (gate_path ++ name ∷ rest) ≡ None) dir below) spares
+      (λ t u had spare. (spare.journal ∙ had.0, λ name rest. spare.below name rest (had.1 name rest))) in
       step_on (told three) (told new) (λ u. ((u.now journal_path ≡ Some Dir) × ((name : List ℕ) (rest : List (List ℕ)) → u.now (gate_path ++ name ∷ rest) ≡ None)) × (HasNoEntries u.now × IsPrepared u)) IsFresh (λ s t. (t.now ≡ s.now) × ((t.synced ≡ s.now) × (t.touched ≡ [])))
       (on_both (told three) (λ u. (u.now journal_path ≡ Some Dir) × ((name : List ℕ) (rest : List (List ℕ)) → u.now (gate_path ++ name ∷ rest) ≡ None)) (λ u. HasNoEntries u.now × IsPrepared u) then (on_both (told three) (λ u. HasNoEntries u.now) IsPrepared cleared prepared))
       (step_both (told three) (told new) (λ s t. t.now ≡ s.now) (λ s t. (t.synced ≡ s.now) × (t.touched ≡ [])) stays (step_both (told three) (told new) (λ s t. t.synced ≡ s.now) (λ s t. t.touched ≡ []) synced settled))

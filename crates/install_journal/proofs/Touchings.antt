@@ -1,13 +1,11 @@
 -- A path is touched through a change.
-use Rattle.std.proofs.Common.{◌≡◌, ◌≢◌, ℕ, suc, ◌+◌, ◌<◌, ◌≤◌, List, [], ◌∷◌, ◌++◌, length, Option, Some, None, Bool, true, false, ◌⊎◌, inl, inr, ⊎_elim, refl, sym, ◌∙◌, ap, subst, arith, codes}
-use Rattle.folder_core.specs.Folder.{Map, Told, IsFormed, CanSet, NothingBelow, SameBut, set_at}
+use Rattle.std.proofs.Common.{◌≡◌, ℕ, suc, ◌+◌, ◌<◌, List, [], ◌∷◌, ◌++◌, length, Option, Some, None, Bool, true, false, inl, sym, ◌∙◌, ap, subst, arith}
+use Rattle.folder_core.specs.Folder.{Map, Told, CanSet, SameBut}
 use Rattle.folder_core.specs.Crash.{IsImage, AllImages, Touches, Elapses, LeavesOnly}
 use Rattle.folder_core.specs.Node.{entries_path}
 use Rattle.folder_core.specs.Step.{OnTold, Step}
 use Rattle.folder_core.specs.declared.node.Node.{Node}
 use Rattle.folder_core.specs.declared.node.Node.TheVariants.{Dir}
-use Rattle.folder_core.proofs.Maps.{parent_apart}
-use Rattle.folder_core.specs.Path.{parent}
 use Rattle.backup_store.specs.Entry.{IsEntry}
 use Rattle.backup_store.specs.Held.{HoldsEntry}
 use Rattle.backup_store.specs.Keeping.{HasRoom, HasNoMark, SameButEntry, HasCome, LeavesEntry, IsKept, IsCounted}
@@ -18,16 +16,16 @@ use Rattle.install_journal.specs.Kept.{AreKept, IsFree, Undoes, entry_of}
 use Rattle.install_journal.specs.Open.{IsOpen}
 use Rattle.install_journal.specs.Overlay.{Covers, SameOutside}
 use Rattle.install_journal.specs.Restored.{IsRestored, RestoresLike, RestoresSame}
-use Rattle.install_journal.specs.Touching.{lengthened, refused, SameOutsideBut}
+use Rattle.install_journal.specs.Touching.{SameOutsideBut}
 use Rattle.install_journal.specs.declared.change.Change.{Change}
 use Rattle.install_journal.proofs.Closings.{nothing_below_other}
 use Rattle.install_journal.proofs.Counting.{restores_alike}
 use Rattle.install_journal.proofs.Fixing.{fixed_image, fixed_touches}
-use Rattle.install_journal.proofs.Keepings.{keep_fails, keep_leaves, keep_free, keep_pushes, pushed_serves}
-use Rattle.install_journal.proofs.Keeps.{kept_shows, kept_restores, kept_goes_on, free_goes_on, length_push}
+use Rattle.install_journal.proofs.Keepings.{keep_fails, keep_leaves, keep_free, keep_pushes}
+use Rattle.install_journal.proofs.Keeps.{kept_restores, kept_goes_on, free_goes_on, length_push}
 use Rattle.install_journal.proofs.Opens.{open_restores}
 use Rattle.install_journal.proofs.Overlays.{covers_back}
-use Rattle.install_journal.proofs.Runs.{on_told, on_each, on_both, at_told, step_on, step_both, step_each, step_from, step_then, images_on, Ran, start_at, one, more, weaken}
+use Rattle.install_journal.proofs.Runs.{on_told, on_each, on_both, at_told, step_on, step_both, step_each, step_then, images_on, Ran, start_at, one, more}
 use Rattle.install_journal.proofs.Undoings.{can_same, undoes_push, undoes_same}
 
 same_outside_entry : (k : ℕ) (a b : Map) → SameButEntry k a b → SameOutside b a
@@ -143,7 +141,6 @@ module _ {D : Type 0} (told : D → Option Told) (left_since : D → ℕ → Map
     (can : OnTold (told old) (λ s. CanSet s.now path))
     (image : OnTold (told old) (λ s. IsImage s s.now))
     (only : OnTold (told old) (λ s. (m : Map) → left_since old s.moment m → IsImage s m)) where
-
   pub touchable : OnTold (told old) (IsTouchable change path)
   touchable = on_each (told old) (λ s. (IsOpen change s × IsImage s s.now) × CanSet s.now path) (IsTouchable change path)
       (λ s all. record { began = all.0.0; image = all.0.1; can = all.1 })
@@ -159,7 +156,6 @@ module _ {D : Type 0} (told : D → Option Told) (left_since : D → ℕ → Map
       (elsewhere : Step (told old) (told mid) (λ s t. SameButEntry (change.kept + 1) s.now t.now))
       (come : Step (told old) (told mid) (λ s t. HasCome s (change.kept + 1) path t))
       (leaves : OnTold (told old) (λ s. LeavesOnly told left_since old mid (LeavesEntry s (change.kept + 1) path))) where
-
     pub failed_open : OnTold (told mid) (IsOpen (record change { ready = false; failed = true }))
     failed_open = step_on (told old) (told mid) (IsTouchable change path) (IsOpen (record change { ready = false; failed = true }))
         (λ s t. SameButEntry (change.kept + 1) s.now t.now × HasCome s (change.kept + 1) path t) touchable
@@ -200,7 +196,6 @@ module _ {D : Type 0} (told : D → Option Told) (left_since : D → ℕ → Map
         (touches : Step (told mid) (told new) (Touches path))
         (but : Step (told mid) (told new) (λ s t. SameBut path s.now t.now))
         (time : Step (told mid) (told new) (λ s t. Elapses s.moment t.moment (left_since mid) (left_since new) (IsImage t))) where
-
       abbrev Kept : Told → Told → Type 0
       Kept s t = IsKept s (change.kept + 1) path t × IsCounted s (change.kept + 1) path t.now
 

@@ -1,7 +1,7 @@
 -- Entries are put back, from the last to the first.
-use Rattle.std.proofs.Common.{◌≡◌, ◌≢◌, ℕ, zero, suc, ◌+◌, ◌<◌, ◌≤◌, List, [], ◌∷◌, ◌++◌, length, get_or, Option, Some, None, Contains, ◌⊎◌, inl, inr, ⊎_elim, refl, sym, ◌∙◌, ap, subst, arith, codes, length-append}
+use Rattle.std.proofs.Common.{◌≡◌, ◌≢◌, ℕ, zero, suc, ◌+◌, ◌<◌, ◌≤◌, List, [], ◌∷◌, ◌++◌, length, Option, inl, inr, ⊎_elim, refl, sym, ◌∙◌, ap, subst, arith, length-append}
 use Rattle.folder_core.specs.Folder.{Map, Told, CanSet, SameBut, set_at}
-use Rattle.folder_core.specs.Crash.{IsImage, Touches}
+use Rattle.folder_core.specs.Crash.{IsImage}
 use Rattle.folder_core.specs.declared.node.Node.{Node}
 use Rattle.folder_core.specs.Path.{parent}
 use Rattle.folder_core.proofs.Maps.{same_path, changed_here, changed_other, parent_apart}
@@ -12,7 +12,7 @@ use Rattle.backup_store.specs.declared.entry.Entry.{Entry}
 use Rattle.install_journal.specs.Fixed.{IsFixed}
 use Rattle.install_journal.specs.Overlay.{entry_at, Covers, SameOutside}
 use Rattle.install_journal.specs.Kept.{AreKept, Undoes, entry_of}
-use Rattle.install_journal.proofs.Keeps.{kept_shows, at_front, at_end, Shows}
+use Rattle.install_journal.proofs.Keeps.{kept_shows, at_front, at_end}
 use Rattle.install_journal.proofs.Overlays.{outside_parent, outside_below}
 use Rattle.install_journal.proofs.Unique.{holds_one_path, holds_one_node}
 
@@ -49,8 +49,7 @@ module _ (entries : List Entry) (outside : (path : List (List ℕ)) → Covers e
   pub undoes_same : (n : ℕ) (a b old : Map) → n ≤ length entries → SameOutside b a → Undoes entries n a old → Undoes entries n b old
   undoes_same zero a b old most same undoes = λ path out. same path out ∙ undoes path out
   undoes_same (suc n) a b old most same undoes =
-      let entry = entry_at entries n in
-      (
+      let entry = entry_at entries n in (
         can_same a b entry.path (outside entry.path (covers_at entries n (omega arith))) same undoes.0,
         undoes_same n (set_at a entry.path entry.before) (set_at b entry.path entry.before) old (omega arith) (set_same a b entry.path entry.before same) undoes.1,
       )
@@ -58,15 +57,14 @@ module _ (entries : List Entry) (outside : (path : List (List ℕ)) → Covers e
   -- the path of the entry to be put back has any node or none
   pub undoes_but : (n : ℕ) (a b old : Map) → n < length entries → SameBut (entry_at entries n).path a b → Undoes entries (suc n) a old → Undoes entries (suc n) b old
   undoes_but n a b old below same undoes =
-      let entry = entry_at entries n in
-      (
+      let entry = entry_at entries n in (
         can_but a b entry.path same undoes.0,
         undoes_same n (set_at a entry.path entry.before) (set_at b entry.path entry.before) old (omega arith)
-        (λ place out. elim (same_path place entry.path) [
-          | inl here ↦ changed_here b entry.path entry.before place here ∙ sym (changed_here a entry.path entry.before place here)
-          | inr apart ↦ changed_other b entry.path entry.before place apart ∙ same place apart ∙ sym (changed_other a entry.path entry.before place apart)
-        ])
-        undoes.1,
+            (λ place out. elim (same_path place entry.path) [
+              | inl here ↦ changed_here b entry.path entry.before place here ∙ sym (changed_here a entry.path entry.before place here)
+              | inr apart ↦ changed_other b entry.path entry.before place apart ∙ same place apart ∙ sym (changed_other a entry.path entry.before place apart)
+            ])
+            undoes.1,
       )
 
 pub undoes_front : (entries : List Entry) (entry : Entry) (n : ℕ) (m old : Map) → n ≤ length entries → Undoes entries n m old → Undoes (entries ++ entry ∷ []) n m old
@@ -88,11 +86,10 @@ undoes_push entries before after later old path all_outside outside can same but
       | inl here ↦ changed_here later path (before path) place here ∙ ap before (sym here)
       | inr apart ↦ changed_other later path (before path) place apart ∙ but place apart ∙ same place out
     ] in
-    subst (λ (e : Entry). CanSet later e.path × Undoes pushed (length entries) (set_at later e.path e.before) old) (sym (at_end entries (entry_of before path)))
-    (
+    subst (λ (e : Entry). CanSet later e.path × Undoes pushed (length entries) (set_at later e.path e.before) old) (sym (at_end entries (entry_of before path))) (
       can_but after later path but (can_same before after path outside same can),
       undoes_same pushed all_outside (length entries) before (set_at later path (before path)) old (omega (arith, length-append entries (entry_of before path ∷ [])))
-      back (undoes_front entries (entry_of before path) (length entries) before old (omega arith) undoes),
+          back (undoes_front entries (entry_of before path) (length entries) before old (omega arith) undoes),
     )
 
 -- Of entries that are kept, the last one that isn't put back.

@@ -1,5 +1,5 @@
 -- What closing the gate leaves.
-use Rattle.std.specs.Prelude.{◌≡◌, ◌⊎◌, ℕ, List, [], Option, None, Contains}
+use Rattle.std.specs.Prelude.{◌≡◌, ◌⊎◌, ℕ, List, [], None, Contains}
 use Rattle.folder_core.specs.Crash.{IsImage}
 use Rattle.folder_core.specs.Folder.{Map, Told, IsFormed, SameBut, set_at}
 use Rattle.backup_store.specs.Held.{IsOpen as OpensGate}

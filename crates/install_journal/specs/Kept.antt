@@ -1,5 +1,5 @@
 -- What a change that has begun has kept in the folder.
-use Rattle.std.specs.Prelude.{◌≡◌, ℕ, zero, suc, ◌+◌, ◌<◌, ◌≤◌, ◌⊎◌, List, [], ◌∷◌, ◌++◌, length, Option, Some, None}
+use Rattle.std.specs.Prelude.{◌≡◌, ℕ, zero, suc, ◌+◌, ◌<◌, ◌≤◌, ◌⊎◌, List, [], ◌∷◌, ◌++◌, length, Some, None}
 use Rattle.folder_core.specs.Folder.{Map, Told, IsFormed, CanSet, set_at}
 use Rattle.folder_core.specs.Node.{entries_path}
 use Rattle.folder_core.specs.Path.{IsBelow}

@@ -1,5 +1,5 @@
 -- What stands before the gate is opened.
-use Rattle.std.specs.Prelude.{◌≡◌, ◌≢◌, ℕ, ◌⊎◌, List, [], ◌∷◌, ◌++◌, codes, Option, Some, None, IsSome, MatchOption, true, false}
+use Rattle.std.specs.Prelude.{◌≡◌, ◌≢◌, ℕ, ◌⊎◌, List, [], ◌∷◌, ◌++◌, codes, Option, Some, None, IsSome, true, false}
 use Rattle.folder_core.specs.Crash.{IsImage, LeavesOnly}
 use Rattle.folder_core.specs.Folder.{Map, Told, NothingBelow}
 use Rattle.folder_core.specs.Node.{entries_path}
@@ -7,7 +7,6 @@ use Rattle.folder_core.specs.Path.{IsBelow}
 use Rattle.folder_core.specs.Step.{OnTold}
 use Rattle.folder_core.specs.declared.node.Node.{Node}
 use Rattle.folder_core.specs.declared.node.Node.TheVariants.{Dir}
-use Rattle.folder_core.specs.declared.node.After.{After}
 use Rattle.folder_core.specs.declared.node.After.TheVariants.{Unchanged, Recover, Either}
 use Rattle.backup_store.specs.Held.{IsOpen as OpensGate}
 use Rattle.backup_store.specs.Places.{IsOutside, gate_path}

@@ -1,10 +1,7 @@
 -- What a touch does to a change.
-use Rattle.std.specs.Prelude.{◌≡◌, ◌≢◌, ℕ, ◌+◌, ◌⊎◌, List, Option, false, true}
-use Rattle.folder_core.specs.Folder.{Map, Told}
-use Rattle.folder_core.specs.declared.node.Node.{Node}
-use Rattle.backup_store.specs.Held.{HoldsEntry}
+use Rattle.std.specs.Prelude.{◌≡◌, ◌≢◌, ℕ, ◌+◌, ◌⊎◌, List, false, true}
+use Rattle.folder_core.specs.Folder.{Map}
 use Rattle.backup_store.specs.Places.{IsOutside}
-use Rattle.install_journal.specs.Overlay.{SameOutside}
 use Rattle.install_journal.specs.declared.change.Change.{Change}
 use Rattle.install_journal.specs.declared.fault.TouchFault.{TouchFault}
 use Rattle.install_journal.specs.declared.fault.TouchFault.TheVariants.{Failed, TooManyEntries, NoMemory}

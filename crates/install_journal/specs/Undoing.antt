@@ -1,7 +1,6 @@
 -- Entries are put back, the newest first.
 use Rattle.std.specs.Prelude.{◌≡◌, ℕ, zero, suc, ◌-◌, ◌≤◌, false, true, List, ⊤}
 use Rattle.folder_core.specs.Folder.{Map}
-use Rattle.folder_core.specs.declared.node.After.{After}
 use Rattle.folder_core.specs.declared.node.After.TheVariants.{Recover}
 use Rattle.backup_store.specs.PuttingBack.{PutsBack}
 use Rattle.install_journal.specs.declared.change.Change.{Change}

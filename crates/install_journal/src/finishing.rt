@@ -18,7 +18,11 @@ impl Change {
     /// Makes what stands now the installation: syncs, takes the gate away, and syncs. At Ok it survives every crash.
     ///
     /// Where the gate wasn't touched, the change is handed back, and a crash still leaves the old installation.
-    pub fn finish<F: Folder>(mut self, alloc: Global, folder: &mut F) -> Result<Receipt, FinishFault>
+    pub fn finish<F: Folder>(
+        mut self,
+        alloc: Global,
+        folder: &mut F,
+    ) -> Result<Receipt, FinishFault>
         requires ready { IsReady self }
         requires open { OnTold (F.told folder.old) (IsOpen self) }
         ensures finished { OnOk result (Step (F.told folder.old) (F.told folder.new) (λ s t. IsSettled s.now t)) }

@@ -1,4 +1,4 @@
-use Rattle.std.proofs.Common.{◌≡◌, None, List, ℕ, Option, subst}
+use Rattle.std.proofs.Common.{None, List, ℕ, Option, subst}
 use Rattle.folder_core.specs.Folder.{Map}
 use Rattle.folder_core.specs.Step.{OnTold}
 use Rattle.install_journal.specs.Overlay.{SameOutside}

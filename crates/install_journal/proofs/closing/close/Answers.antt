@@ -1,11 +1,9 @@
-use Rattle.std.proofs.Common.{◌∙◌, ap, List, ℕ, subst, sym, rules}
-use Rattle.std.specs.Result.{OnErr}
+use Rattle.std.proofs.Common.{subst, sym, rules}
 use Rattle.folder_core.specs.Folder.{CanSet}
 use Rattle.folder_core.specs.Crash.{IsImage}
 use Rattle.backup_store.specs.Held.{IsOpen as OpensGate}
-use Rattle.install_journal.specs.Closing.{TouchesGate}
 use Rattle.install_journal.proofs.Closings.{can_close, on_err, gate_touched, gate_touched_on, none_leaves, set_leaves, sync_leaves}
-use Rattle.install_journal.proofs.Runs.{on_each, on_both, step_then, step_both}
+use Rattle.install_journal.proofs.Runs.{on_each, on_both}
 use Rattle.install_journal.proofs.closing.close.Goals as goal
 
 pub set-requires-clause-place : goal.set-requires-clause-place
@@ -32,7 +30,7 @@ returns-clause-leaves g c =
 pub returns-in_err-set-clause-touches : goal.returns-in_err-set-clause-touches
 returns-in_err-set-clause-touches g c =
     on_err _ _ (gate_touched g.F.Folder.told g.F.Folder.left_since c.args.folder.now c.requires.synced (g.met.F.Folder.only_now c.args.folder.now)
-        c.set.new.self c.args.gate.now c.requires.gate c.set.ensures.crash)
+    c.set.new.self c.args.gate.now c.requires.gate c.set.ensures.crash)
 
 pub returns-in_err-sync-clause-touches : goal.returns-in_err-sync-clause-touches
 returns-in_err-sync-clause-touches g c =

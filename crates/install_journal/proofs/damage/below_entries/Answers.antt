@@ -1,4 +1,4 @@
-use Rattle.std.proofs.Common.{◌≡◌, ℕ, List, [], ◌∷◌, ◌++◌, None, Option, get_or, arith, sym, ◌∙◌, ap, subst, below_more}
+use Rattle.std.proofs.Common.{◌≡◌, ℕ, List, [], ◌∷◌, ◌++◌, None, Option, get_or, arith, sym, subst, below_more}
 use Rattle.folder_core.specs.Folder.{Map, IsKid}
 use Rattle.folder_core.specs.Name.{AreThose}
 use Rattle.folder_core.specs.Step.{OnTold}

@@ -1,4 +1,4 @@
-use Rattle.std.proofs.Common.{sym, ◌∙◌, ap, Option, List, ℕ}
+use Rattle.std.proofs.Common.{sym, ◌∙◌, ap}
 use Rattle.std.specs.Option.{option_copied}
 use Rattle.install_journal.proofs.Firsts.{found_none}
 use Rattle.install_journal.proofs.damage.first_child.Goals as goal

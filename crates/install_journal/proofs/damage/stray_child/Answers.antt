@@ -1,4 +1,4 @@
-use Rattle.std.proofs.Common.{◌≡◌, ◌⊎◌, ℕ, List, [], get_or, codes, sym, ◌∙◌, subst, below_more}
+use Rattle.std.proofs.Common.{◌≡◌, ◌⊎◌, ℕ, List, [], get_or, codes, sym, subst, below_more}
 use Rattle.folder_core.specs.Folder.{IsKid}
 use Rattle.folder_core.specs.Name.{AreThose}
 use Rattle.folder_core.specs.Step.{OnTold}

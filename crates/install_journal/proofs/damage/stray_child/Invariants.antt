@@ -1,8 +1,4 @@
-use Rattle.std.proofs.Common.{◌≡◌, ◌⊎◌, ◌≤◌, ◌<◌, ℕ, List, [], get_or, codes}
-use Rattle.folder_core.specs.Folder.{IsKid}
-use Rattle.folder_core.specs.Name.{AreThose}
-use Rattle.folder_core.specs.Step.{OnTold}
-use Rattle.install_journal.specs.Looks.{OnlyLooks}
+use Rattle.std.proofs.Common.{◌≡◌, ◌⊎◌, ◌<◌, ℕ, [], get_or, codes}
 use Rattle.install_journal.proofs.damage.stray_child.Given as goal
 
 abbrev pub invariant-loop-name : goal.invariant-loop-name

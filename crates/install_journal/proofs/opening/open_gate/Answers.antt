@@ -1,4 +1,4 @@
-use Rattle.std.proofs.Common.{Some, Option, ap, refl, rules}
+use Rattle.std.proofs.Common.{Some, ap}
 use Rattle.folder_core.specs.declared.node.Node.{Node}
 use Rattle.install_journal.proofs.Openings.{gate_can, set_restores, sync_restores, set_may_open, is_begun, is_opened}
 use Rattle.install_journal.proofs.opening.open_gate.Goals as goal

@@ -1,8 +1,8 @@
-use Rattle.std.proofs.Common.{◌≡◌, ℕ, List, [], ◌∷◌, ◌++◌, Some, None, get_or, arith, refl, sym, ◌∙◌, ap, subst, below_more}
+use Rattle.std.proofs.Common.{◌≡◌, ℕ, List, [], ◌∷◌, ◌++◌, Some, get_or, arith, sym, ◌∙◌, ap, subst, below_more}
 use Rattle.folder_core.specs.Folder.{Map, IsKid}
 use Rattle.folder_core.specs.Name.{AreThose}
 use Rattle.folder_core.specs.Node.{entries_path}
-use Rattle.folder_core.specs.Step.{OnTold, Step}
+use Rattle.folder_core.specs.Step.{OnTold}
 use Rattle.folder_core.specs.declared.node.Node.TheVariants.{Dir}
 use Rattle.install_journal.specs.Preparing.{Moves}
 use Rattle.install_journal.proofs.Clearings.{can_clear, inside_entries, directory_stays, gone_stays, gone_here, all_gone, loses_same, loses_then, spares_same, spares_then}

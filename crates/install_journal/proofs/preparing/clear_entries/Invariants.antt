@@ -1,4 +1,4 @@
-use Rattle.std.proofs.Common.{◌≡◌, ◌≤◌, ◌<◌, ℕ, List, [], ◌∷◌, ◌++◌, Some, None, get_or}
+use Rattle.std.proofs.Common.{◌≡◌, ◌≤◌, ◌<◌, ℕ, [], ◌∷◌, ◌++◌, Some, None, get_or}
 use Rattle.folder_core.specs.Folder.{IsKid}
 use Rattle.folder_core.specs.Name.{AreThose}
 use Rattle.folder_core.specs.Node.{entries_path}

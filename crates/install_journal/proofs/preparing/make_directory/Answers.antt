@@ -1,9 +1,8 @@
-use Rattle.std.proofs.Common.{◌≡◌, List, ℕ, Some, false, true, sym, ◌∙◌}
+use Rattle.std.proofs.Common.{◌≡◌, Some, sym, ◌∙◌}
 use Rattle.std.proofs.lemmas.Bool.{false≢true}
-use Rattle.folder_core.specs.Folder.{Map, SameBut}
+use Rattle.folder_core.specs.Folder.{Map}
 use Rattle.folder_core.specs.Path.{parent}
 use Rattle.folder_core.specs.declared.node.Node.TheVariants.{Dir}
-use Rattle.folder_core.specs.Step.{OnTold, Step}
 use Rattle.install_journal.specs.Preparing.{Moves}
 use Rattle.install_journal.proofs.Opens.{looks_of}
 use Rattle.install_journal.proofs.Preparings.{can_make, looked_on, looks_move, set_moves, both_move, still_prepared, one_closed, closed_then, made_by, but_then}

@@ -1,8 +1,7 @@
-use Rattle.std.proofs.Common.{◌≡◌, None, List, ℕ}
-use Rattle.folder_core.specs.Folder.{Map, Told}
+use Rattle.std.proofs.Common.{None}
+use Rattle.folder_core.specs.Folder.{Map}
 use Rattle.install_journal.specs.Overlay.{SameOutside}
 use Rattle.install_journal.specs.Preparing.{IsDamage, Finds}
-use Rattle.install_journal.proofs.Abandonings.{on_ok_each}
 use Rattle.install_journal.proofs.Beginnings.{on_ok, unchanged_each, damage_each, none_left, looks_left, looks_shut, mid_prepared, mid_back, then_left, then_restores, then_stays, then_shut, then_same, recover_of, ok_each}
 use Rattle.install_journal.proofs.Opens.{looks_of}
 use Rattle.install_journal.proofs.change.Change.begin.Goals as goal

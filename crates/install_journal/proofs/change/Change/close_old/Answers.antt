@@ -1,8 +1,5 @@
 use Rattle.folder_core.specs.Folder.{SameBut}
 use Rattle.backup_store.specs.Places.{gate_path}
-use Rattle.install_journal.specs.Abandoning.{SettlesRestored}
-use Rattle.install_journal.specs.Closing.{IsClosed, TouchesGate, MayBeOpen}
-use Rattle.folder_core.specs.Step.{Step, OnTold}
 use Rattle.install_journal.proofs.Abandonings.{end_settles, end_old, end_tells, end_may_be, on_ok_each, on_err_each}
 use Rattle.install_journal.proofs.Backs.{open_may_be}
 use Rattle.install_journal.proofs.Finishings.{mid_opens, mid_synced}

@@ -1,11 +1,10 @@
-use Rattle.install_journal.proofs.Finishings.{same_restores, old_or_new, mid_open, mid_synced, mid_opens, end_restores, end_leaves, end_open, end_settled, end_stays}
+use Rattle.install_journal.proofs.Finishings.{same_restores, old_or_new, mid_synced, mid_opens, end_restores, end_leaves, end_open, end_settled}
 use Rattle.install_journal.proofs.Opens.{open_spoiled, looks_of, looked_open, looked_restores}
 use Rattle.install_journal.proofs.Runs.{on_each}
-use Rattle.install_journal.specs.Closing.{IsSynced, IsClosed}
 use Rattle.install_journal.specs.Open.{IsOpen, spoiled}
 use Rattle.backup_store.specs.Places.{gate_path}
 use Rattle.folder_core.specs.Folder.{SameBut}
-use Rattle.std.proofs.Common.{◌≡◌, rules}
+use Rattle.std.proofs.Common.{rules}
 use Rattle.install_journal.proofs.change.Change.finish.Goals as goal
 
 pub returns-in_default-clause-restores : goal.returns-in_default-clause-restores

@@ -1,6 +1,5 @@
 use Rattle.std.specs.Bool.{⊤}
-use Rattle.std.proofs.Common.{refl, sym, ap, ◌∙◌, arith}
-use Rattle.install_journal.specs.Abandoning.{SettlesRestored}
+use Rattle.std.proofs.Common.{ap}
 use Rattle.install_journal.specs.declared.change.Change.{Change}
 use Rattle.install_journal.proofs.Abandonings.{like_now, settles_then}
 use Rattle.install_journal.proofs.Backs.{open_may_be, restores_and_then}

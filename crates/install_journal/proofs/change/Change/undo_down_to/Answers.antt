@@ -1,6 +1,5 @@
-use Rattle.std.proofs.Common.{refl, arith, sym, ap, false}
+use Rattle.std.proofs.Common.{refl, arith, ap, false}
 use Rattle.std.specs.Bool.{⊤}
-use Rattle.folder_core.specs.Step.{Step}
 use Rattle.install_journal.specs.Open.{IsOpen}
 use Rattle.install_journal.specs.declared.change.Change.{Change}
 use Rattle.install_journal.proofs.Backs.{restores_and_then, shortened_again, puts_on, puts_none}

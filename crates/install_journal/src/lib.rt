@@ -1,4 +1,4 @@
-//! The undo journal of a folder: a change that is finished or abandoned as a whole, and recovery after a crash.
+//! The undo journal of a folder: a change that is finished or abandoned as a whole, whatever moment a crash comes.
 #![tactic(auto)]
 
 mod abandoning;

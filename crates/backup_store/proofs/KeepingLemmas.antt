@@ -54,13 +54,6 @@ none_below m formed path none (suc depth) name (next ∷ rest) short = ⊎_elim
 pub nothing_below : (m : Map) (path : List (List ℕ)) → IsFormed m → m path ≡ None → NothingBelow m path
 nothing_below m path formed none name rest = none_below m formed path none (length rest) name rest (omega arith)
 
-pub can_enter : (k : ℕ) (s t : Told) → HasRoom s k → IsStill s t → CanSet t.now (entry_path k)
-can_enter k s t room still = record {
-  not_root = λ e. cc;
-  parent = ap (λ (m : Map). m entries_path) still.now ∙ room.directory;
-  nothing_below = λ name rest. ap (λ (m : Map). m (entry_path k ++ name ∷ rest)) still.now ∙ room.nothing_below name rest;
-}
-
 pub can_mark_now : (k : ℕ) (s : Told) → IsFormed s.now → HasRoom s k → HasNoMark k s.now → CanSet s.now (mark_path k)
 can_mark_now k s formed room none = record {
   not_root = λ e. cc;

@@ -34,12 +34,6 @@ on_told None (Some t) P R T f fact step = absurd step
 on_told (Some s) None P R T f fact step = absurd step
 on_told (Some s) (Some t) P R T f fact step = f s t fact step
 
--- A step says of what was told what it says of each thing that may be told then.
-pub on_old : (old new : Option Told) (R : Told → Told → Type 0) (P : Told → Type 0) → ((s t : Told) → R s t → P s) → Step old new R → OnTold old P
-on_old None new R P f step = tt
-on_old (Some s) None R P f step = absurd step
-on_old (Some s) (Some t) R P f step = f s t step
-
 pub on_new : (old new : Option Told) (R : Told → Told → Type 0) (P : Told → Type 0) → ((s t : Told) → R s t → P t) → Step old new R → OnTold new P
 on_new None None R P f step = tt
 on_new None (Some t) R P f step = absurd step
@@ -83,11 +77,6 @@ EachLeft-next {before = before} has so_far time = record {
       (λ is. inr (has m is))
       (time.nothing_else moment m (omega (arith, earlier, so_far.later)) left);
 }
-
--- The images of what is told are those of each thing that may be told.
-pub all_images : (told : Option Told) (P : Map → Type 0) → OnTold told (λ s. (m : Map) → IsImage s m → P m) → AllImages P told
-all_images None P each = λ m none. absurd none
-all_images (Some s) P each = λ m image. each m image
 
 pub each_image : (told : Option Told) (P : Map → Type 0) → AllImages P told → OnTold told (λ s. (m : Map) → IsImage s m → P m)
 each_image None P each = tt

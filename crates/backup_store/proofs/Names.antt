@@ -61,15 +61,6 @@ entries_name = plain_name (codes "e") (All-cons IsPlain 101 [] (plain 101 (lit�
 no_digit_dot : (bytes : List ℕ) → ¬ (AreDigits (46 ∷ bytes))
 no_digit_dot bytes are = let digit = All-head (λ b. (48 ≤ b) × (b ≤ 57)) 46 bytes are in omega (arith, digit.0)
 
-pub entry_name : (k : ℕ) → k < 2 ^ 32 → IsName (decimal k)
-entry_name k small =
-    let within : k < 2 ^ 64 = omega arith in
-    let are = AreDigits-decimal k within in
-    let some = decimal_nonempty k within in
-    let short = length-decimal-le 20 k (omega arith) (omega arith) within in
-    plain_name (decimal k) (plain_digits (decimal k) are) (λ is. omega (arith, some, ap length is)) (omega (arith, short))
-    (λ is. no_digit_dot [] (subst AreDigits is are)) (λ is. no_digit_dot (46 ∷ []) (subst AreDigits is are))
-
 plain_ok : All IsPlain (codes ".ok")
 plain_ok = All-cons IsPlain 46 (111 ∷ 107 ∷ []) dot (two 111 107 (plain 111 (lit≤ tt) (lit≤ tt)) (plain 107 (lit≤ tt) (lit≤ tt)))
 
@@ -86,9 +77,6 @@ in_entries : (name : List ℕ) → IsName name → IsPath (entries_path ++ name 
 in_entries name is =
     IsPath-push entries_path name (omega arith) (IsPath-push (codes ".p2" ∷ []) (codes "e") (omega arith) (IsPath-push [] (codes ".p2") (omega arith) IsPath-nil journal_name) entries_name) is
 
-pub entry_is_path : (k : ℕ) → k < 2 ^ 32 → IsPath (entry_path k)
-entry_is_path k small = in_entries (decimal k) (entry_name k small)
-
 pub mark_is_path : (k : ℕ) → k < 2 ^ 32 → IsPath (mark_path k)
 mark_is_path k small = in_entries (decimal k ++ codes ".ok") (mark_name k small)
 
@@ -98,9 +86,3 @@ mark_apart k is =
     let name : decimal k ++ codes ".ok" ≡ decimal k = ap (λ (p : List (List ℕ)). get_or p 2 []) is in
     let longer : length (decimal k ++ codes ".ok") ≡ length (decimal k) + 3 = length-append (decimal k) (codes ".ok") in
     omega (arith, longer, ap length name)
-
--- Any node is small enough for the entries.
-pub small_in_entries : (name : List ℕ) (node : Node) → IsSmallAt (entries_path ++ name ∷ []) node
-small_in_entries name (File mode blob) = λ outside. absurd (outside (name, [], refl))
-small_in_entries name Dir = tt
-small_in_entries name (Link target) = tt

@@ -78,11 +78,6 @@ pub found_some : (told : Option Told) (k : ℕ) (found : Option Entry) (e : Entr
 found_some None k found e is holds = tt
 found_some (Some s) k found e is holds = subst (λ o. MatchOption o (IsDamaged s.now k) (λ e. CanRestore s.now k e.path e.before)) is holds
 
-pub found_none : (told : Option Told) (k : ℕ) (found : Option Entry) → found ≡ None → OnTold told (λ s. MatchOption found (IsDamaged s.now k) (λ e. CanRestore s.now k e.path e.before))
-    → OnTold told (λ s. IsDamaged s.now k)
-found_none None k found is holds = tt
-found_none (Some s) k found is holds = subst (λ o. MatchOption o (IsDamaged s.now k) (λ e. CanRestore s.now k e.path e.before)) is holds
-
 pub room_back : (k : ℕ) (path : List (List ℕ)) (before : Option Node) (old new : Option Told) → OnTold old (λ s. HasRoomBack s.now k) → OnTold old (λ s. CanRestore s.now k path before) → Step old new IsStill → OnTold new (λ s. CanSet s.now path)
 room_back k path before None None room can still = tt
 room_back k path before None (Some t) room can still = absurd still
@@ -96,14 +91,6 @@ IsFound k e s t = CanRestore s.now k e.path e.before × IsStill s t
 pub is_found : (k : ℕ) (e : Entry) (old new : Option Told) → OnTold old (λ s. CanRestore s.now k e.path e.before) → Step old new IsStill → Step old new (IsFound k e)
 is_found k e old new can still = on_told old new (λ s. CanRestore s.now k e.path e.before) IsStill (IsFound k e) (λ s t a b. (a, b)) can still
 
-pub puts_back : (k : ℕ) (e : Entry) (s t u : Told) → IsFound k e s t → u.now ≡ set_at t.now e.path e.before → PutsBack k s.now u.now
-puts_back k e s t u (can, still) now = record {
-  path = e.path;
-  before = e.before;
-  entry = can;
-  puts = now ∙ ap (λ (m : Map). set_at m e.path e.before) still.now;
-}
-
 pub same_but_restored : (k : ℕ) (e : Entry) (s t u : Told) → IsFound k e s t → SameBut e.path t.now u.now → SameButRestored k s.now u.now
 same_but_restored k e s t u (can, still) same place apart =
     same place (λ is. apart (e.before, subst (λ p. CanRestore s.now k p e.before) (sym is) can)) ∙ ap (λ (m : Map). m place) still.now
@@ -116,13 +103,6 @@ touches_restored k e s t u (can, still) touches = record {
       (λ is. inr (e.before, subst (λ p. CanRestore s.now k p e.before) (sym is) can))
       (touches.touched place has);
   kept = λ place has. touches.kept place (subst (λ l. Contains l place) (sym still.touched) has);
-}
-
-pub still_restored : (k : ℕ) (s t : Told) → IsStill s t → TouchesRestored k s t
-still_restored k s t still = record {
-  synced = still.synced;
-  touched = λ place has. inl (subst (λ l. Contains l place) still.touched has);
-  kept = λ place has. subst (λ l. Contains l place) (sym still.touched) has;
 }
 
 still_image : (s t : Told) (m : Map) → IsStill s t → IsImage t m → IsImage s m

@@ -1,3 +1,7 @@
+ghost use Rattle.std.specs.Prelude.{◌≤◌, length, IfOk};
+ghost use Rattle.folder_core.specs.Node.{IsNode};
+ghost use Rattle.backup_store.specs.Entry.{IsSmall};
+
 use super::*;
 use crate::places::{entry_path, mark_path};
 use crate::putting_back::is_outside;
@@ -59,7 +63,23 @@ fn file_of(alloc: Global, mode: u16, bytes: &[u8]) -> Result<Node, Fail> {
     Ok(Node::File { mode, blob })
 }
 
-fn link_of(alloc: Global, target: &str) -> Result<Node, NoMemory> {
+fn small_file(alloc: Global, mode: u16, bytes: &[u8]) -> Result<Node, NoMemory>
+    requires mode { mode ≤ 511 }
+    requires length { length bytes.now ≤ 67108864 }
+    ensures node { IfOk result IsNode }
+    ensures small { IfOk result IsSmall }
+{
+    let Some(blob) = Blob::new(List::from_vec(Vec::from_slice(alloc, bytes)?)) else {
+        unreachable!()
+    };
+    Ok(Node::File { mode, blob })
+}
+
+fn link_of(alloc: Global, target: &str) -> Result<Node, NoMemory>
+    requires { length target.now ≤ 4096 }
+    ensures node { IfOk result IsNode }
+    ensures small { IfOk result IsSmall }
+{
     let target = Text::from_str(alloc, target)?;
     Ok(Node::Link { target })
 }
@@ -149,7 +169,7 @@ fn a_file_is_written_and_read(rt: HostRuntime) -> Result<(), Fail> {
     let alloc = rt.alloc();
     let entry = Entry {
         path: path_of(alloc, "a b/c")?,
-        before: Some(file_of(alloc, 0o604, b"\n\0ok")?),
+        before: Some(small_file(alloc, 0o604, b"\n\0ok")?),
     };
     let text = write_entry(alloc, &entry)?;
     assert!(rt; text.bytes() == b"p2entry 1\npath a%20b/c\nfile 604 4\n\n\0ok".as_slice());
@@ -228,6 +248,24 @@ fn a_stopped_entry_counts_only_at_the_end(rt: HostRuntime) -> Result<(), Fail> {
     Ok(())
 }
 
+fn marked(alloc: Global) -> Result<List<Touch>, Fail> {
+    let mut choice = List::new(alloc);
+    choice.push(Touch {
+        path: mark_path(alloc, EntryNumber(1))?,
+        node: Some(file_of(alloc, 0o644, b"ok\n")?),
+    })?;
+    Ok(choice)
+}
+
+// Whether the first entry has this text in the image in which its mark stands.
+fn image_has_entry(alloc: Global, folder: &Quiet, text: &[u8]) -> Result<bool, Fail> {
+    let file = file_of(alloc, 0o644, text)?;
+    let place = entry_path(alloc, EntryNumber(1))?;
+    let choice = marked(alloc)?;
+    let image = folder.inner.image(alloc, &choice)?;
+    Ok(image.node(&place) == Some(&file))
+}
+
 #[test]
 fn an_image_with_the_mark_has_the_entry(rt: HostRuntime) -> Result<(), Fail> {
     let alloc = rt.alloc();
@@ -235,14 +273,8 @@ fn an_image_with_the_mark_has_the_entry(rt: HostRuntime) -> Result<(), Fail> {
     folder.inner.fuse(4);
     let kept = keep_at(alloc, &mut folder, 1, &path_of(alloc, "a")?);
     assert_eq!(rt; kept, Err(StoreFault::Failed));
-    let mut choice = List::new(alloc);
-    choice.push(Touch {
-        path: mark_path(alloc, EntryNumber(1))?,
-        node: Some(file_of(alloc, 0o644, b"ok\n")?),
-    })?;
-    let image = folder.inner.image(alloc, &choice)?;
-    let text = file_of(alloc, 0o644, b"p2entry 1\npath a\nnone\n")?;
-    assert!(rt; image.node(&entry_path(alloc, EntryNumber(1))?) == Some(&text));
+    let text = b"p2entry 1\npath a\nnone\n";
+    assert!(rt; image_has_entry(alloc, &folder, text)?);
     Ok(())
 }
 

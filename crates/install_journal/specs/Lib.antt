@@ -1,0 +1,12 @@
+pub mod Abandoning
+pub mod Closing
+pub mod Fixed
+pub mod Gate
+pub mod Kept
+pub mod Looks
+pub mod Open
+pub mod Overlay
+pub mod Preparing
+pub mod Restored
+pub mod Touching
+pub mod Undoing

@@ -1,0 +1,22 @@
+//! The undo journal of a folder: a change that is finished or abandoned as a whole, whatever moment a crash comes.
+#![tactic(auto)]
+
+mod abandoning;
+mod beginning;
+mod change;
+mod closing;
+mod damage;
+mod fault;
+mod finishing;
+mod gate;
+mod opening;
+mod places;
+mod preparing;
+#[cfg(test)]
+mod tests;
+mod touching;
+mod undoing;
+
+pub use change::{Change, Receipt};
+pub use fault::{FinishFault, JournalFault, TouchFault};
+pub use gate::{Gate, read_gate};

@@ -1,3 +1,6 @@
+mod judges;
+mod worked;
+
 use super::*;
 use ldap_filter::{Env, Filter, Test};
 use osgi_version::{List, NoMemory, Range, Text, Twin, Version};

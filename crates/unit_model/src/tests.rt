@@ -1,5 +1,7 @@
+mod chains;
 mod judges;
 mod worked;
+mod worked_chains;
 
 use super::*;
 use ldap_filter::{Env, Filter, Test};

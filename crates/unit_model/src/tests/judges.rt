@@ -31,7 +31,7 @@ fn count(required: &Required, members: &[Unit]) -> usize
 }
 
 /// Whether the requirement's filter is true, or missing.
-fn asks(required: &Required, env: &Env) -> bool
+pub(crate) fn asks(required: &Required, env: &Env) -> bool
     ensures { result ≡ filter_true env.now required.now.filter }
 {
     match &required.filter {

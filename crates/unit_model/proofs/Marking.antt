@@ -1,12 +1,12 @@
 -- Marks by place, and the chains that they stand for.
 use Rattle.std.proofs.Common.{◌≡◌, ◌≢◌, ℕ, zero, suc, ◌+◌, ◌<◌, ◌≤◌, ◌⊎◌, inl, inr, Bool, true, false, set, subst, List, [], ◌∷◌, ◌++◌, length, take, drop, get_or, refl, ap, sym, ◌∙◌, arith}
-use Rattle.std.specs.Prelude.{◌||◌, ◌↔◌, IsTrue, Contains}
+use Rattle.std.specs.Prelude.{◌↔◌, IsTrue, Contains}
 use Rattle.std.proofs.lemmas.Bool.{cases_lt}
 use Rattle.std.proofs.Math.Seq.{get_or-append_seam}
 use Rattle.std.proofs.lemmas.List.{append-nil, drop_all, get_or_append_left, get_or_default, get_or-set_same, get_or-set_other, take_all}
 use Rattle.std.proofs.lemmas.List.Elements.{Contains-append_cases, Contains-append_right}
 use Rattle.ldap_filter.specs.EnvPairs.{EnvPair}
-use Rattle.unit_model.specs.Marks.{IsMarked, Follows, IsClosed, IsSound, AreRoots, AreChained}
+use Rattle.unit_model.specs.Marks.{Counts, IsMarked, Follows, IsClosed, IsSound, AreRoots, AreChained}
 use Rattle.unit_model.specs.Slice.{LeadsTo, HasChain, Begins, GoesOn, IsGreedy, IsAny, AreRooted}
 use Rattle.unit_model.specs.declared.name.UnitName.{UnitName}
 use Rattle.unit_model.specs.declared.required.Required.{Required}
@@ -147,7 +147,7 @@ some_unit [] k within = absurd (omega arith)
 some_unit (u ∷ us) k within = u
 
 pub rooted : (units : List Package) (strict optional : List UnitName) (env : List EnvPair) (marks : List Bool) (b : Bool)
-    → length marks ≡ length units → AreChained (λ r. IsTrue (true || r.greedy)) units marks (strict ++ optional) env → IsTrue b ↔ ((k : ℕ) → k < length marks → IsMarked marks k)
+    → length marks ≡ length units → AreChained (Counts true) units marks (strict ++ optional) env → IsTrue b ↔ ((k : ℕ) → k < length marks → IsMarked marks k)
     → IsTrue b ↔ AreRooted units strict optional env
 rooted units strict optional env marks b size chained all = (
   λ t. λ k d within.
@@ -163,8 +163,8 @@ rooted units strict optional env marks b size chained all = (
 )
   where
     A : Required → Type 0
-    A = λ r. IsTrue (true || r.greedy)
+    A = Counts true
 
 pub sliced : (units : List Package) (roots : List UnitName) (env : List EnvPair) (marks : List Bool)
-    → AreChained (λ r. IsTrue (false || r.greedy)) units marks (roots ++ []) env → AreChained IsGreedy units marks roots env
+    → AreChained (Counts false) units marks (roots ++ []) env → AreChained IsGreedy units marks roots env
 sliced units roots env marks chained = subst (λ (names : List UnitName). AreChained IsGreedy units marks names env) (append-nil roots) chained

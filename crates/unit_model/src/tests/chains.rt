@@ -1,12 +1,10 @@
 //! Slow judges of what chains of requirements lead to, over a few units.
 
-ghost use Rattle.std.specs.Prelude.{◌≡◌, ℕ, ◌<◌, ◌↔◌, ◌++◌, ◌||◌, false, length, slice_index_or, Contains, IfOk, IsTrue, List, MatchOption};
+ghost use Rattle.std.specs.Prelude.{◌≡◌, ℕ, ◌<◌, ◌↔◌, ◌++◌, length, Contains, IfOk, IsTrue, List, MatchOption};
 ghost use Rattle.unit_model.specs.Applies.{filter_true};
-ghost use Rattle.unit_model.specs.Marks.{IsMarked, EachUnit, Follows, IsClosed, IsSound, AreRoots, AreChained};
-ghost use Rattle.unit_model.specs.Matches.{Matches};
+ghost use Rattle.unit_model.specs.Marks.{Counts, Takes, IsMarked, EachUnit, Follows, IsNext, IsClosed, IsSound, AreRoots, AreChained};
 ghost use Rattle.unit_model.specs.Slice.{LeadsTo, IsInSlice, AreRooted};
 ghost use Rattle.unit_model.specs.declared.name.UnitName.{UnitName as Name};
-ghost use Rattle.unit_model.specs.declared.unit.Unit.{Unit as Package};
 
 use super::judges::asks;
 use crate::matching::{applies, matches};
@@ -18,13 +16,13 @@ use std::alloc::{AllocError, Global};
 
 /// Whether the requirement leads to the other unit. Those that aren't greedy do where `all` is true.
 fn takes(required: &Required, other: &Unit, all: bool, env: &Env) -> bool
-    ensures { IsTrue result ↔ (IsTrue (all || required.now.greedy) × IsTrue (filter_true env.now required.now.filter) × (0 < required.now.max) × Matches required.now other.now) }
+    ensures { IsTrue result ↔ (Takes (Counts all) env.now required.now other.now) }
 {
     (all || required.greedy) && asks(required, env) && 0 < required.max && matches(required, other)
 }
 
 fn leads(unit: &Unit, other: &Unit, all: bool, env: &Env) -> bool
-    ensures { IsTrue result ↔ LeadsTo (λ r. IsTrue (all || r.greedy)) env.now unit.now other.now }
+    ensures { IsTrue result ↔ LeadsTo (Counts all) env.now unit.now other.now }
 {
     for required in unit.required.items() {
         if takes(required, other, all, env) {
@@ -37,7 +35,7 @@ fn leads(unit: &Unit, other: &Unit, all: bool, env: &Env) -> bool
 /// Whether the unit applies, and a marked one leads to it.
 fn follows(units: &[Unit], marks: &[bool], unit: &Unit, all: bool, env: &Env) -> bool
     requires { length marks.now ≡ length units.now }
-    ensures { IsTrue result ↔ Follows (λ r. IsTrue (all || r.greedy)) units.now marks.now env.now unit.now }
+    ensures { IsTrue result ↔ Follows (Counts all) units.now marks.now env.now unit.now }
 {
     if !applies(unit, env) {
         return false;
@@ -53,7 +51,9 @@ fn follows(units: &[Unit], marks: &[bool], unit: &Unit, all: bool, env: &Env) ->
 /// The first place of a unit that isn't marked and has to be.
 fn next(units: &[Unit], marks: &[bool], all: bool, env: &Env) -> Option<usize>
     requires { length marks.now ≡ length units.now }
-    ensures { MatchOption result (IsClosed (λ r. IsTrue (all || r.greedy)) units.now marks.now env.now) (λ k. (k < length units.now) × (slice_index_or marks.now k false ≡ false) × ((u : Package) → slice_index_or units.now k u ≡ u → Follows (λ r. IsTrue (all || r.greedy)) units.now marks.now env.now u)) }
+    ensures { MatchOption result
+        (IsClosed (Counts all) units.now marks.now env.now)
+        (λ place. IsNext (Counts all) units.now marks.now env.now place) }
 {
     for (place, unit) in units.iter().enumerate() {
         if !marks[place] && follows(units, marks, unit, all, env) {
@@ -76,7 +76,8 @@ fn is_root(name: &UnitName, roots: &[UnitName]) -> bool
 
 /// Whether the unit applies and is a root.
 fn begins(unit: &Unit, strict: &[UnitName], optional: &[UnitName], env: &Env) -> bool
-    ensures { IsTrue result ↔ (IsTrue (filter_true env.now unit.now.filter) × Contains (strict.now ++ optional.now) unit.now.name) }
+    ensures { IsTrue result ↔
+        (IsTrue (filter_true env.now unit.now.filter) × Contains (strict.now ++ optional.now) unit.now.name) }
 {
     applies(unit, env) && (is_root(&unit.name, strict) || is_root(&unit.name, optional))
 }
@@ -104,8 +105,9 @@ fn mark_roots(
 fn close(units: &[Unit], marks: &mut [bool], all: bool, env: &Env)
     requires { length marks.old ≡ length units.now }
     ensures kept { (k : ℕ) → IsMarked marks.old k → IsMarked marks.new k }
-    ensures closed { IsClosed (λ r. IsTrue (all || r.greedy)) units.now marks.new env.now }
-    ensures sound { (roots : List Name) → IsSound (λ r. IsTrue (all || r.greedy)) units.now marks.old roots env.now → IsSound (λ r. IsTrue (all || r.greedy)) units.now marks.new roots env.now }
+    ensures closed { IsClosed (Counts all) units.now marks.new env.now }
+    ensures sound { (roots : List Name) →
+        IsSound (Counts all) units.now marks.old roots env.now → IsSound (Counts all) units.now marks.new roots env.now }
 {
     while let Some(place) = next(units, marks, all, env) {
         marks[place] = true;
@@ -121,7 +123,9 @@ fn chained(
     all: bool,
     env: &Env,
 ) -> Result<Vec<bool>, AllocError>
-    ensures { IfOk result (λ marks. (length marks.items ≡ length units.now) × AreChained (λ r. IsTrue (all || r.greedy)) units.now marks.items (strict.now ++ optional.now) env.now) }
+    ensures size { IfOk result (λ marks. length marks.items ≡ length units.now) }
+    ensures exact { IfOk result (λ marks.
+        AreChained (Counts all) units.now marks.items (strict.now ++ optional.now) env.now) }
 {
     let mut marks = mark_roots(alloc, units, strict, optional, env)?;
     close(units, &mut marks, all, env);
@@ -136,7 +140,8 @@ pub(crate) fn in_slice(
     env: &Env,
 ) -> Result<Vec<bool>, AllocError>
     ensures size { IfOk result (λ marks. length marks.items ≡ length units.now) }
-    ensures exact { IfOk result (λ marks. EachUnit units.now (λ k u. IsMarked marks.items k ↔ IsInSlice units.now roots.now env.now u)) }
+    ensures exact { IfOk result (λ marks.
+        EachUnit units.now (λ k u. IsMarked marks.items k ↔ IsInSlice units.now roots.now env.now u)) }
 {
     chained(alloc, units, roots, &[], false, env)
 }

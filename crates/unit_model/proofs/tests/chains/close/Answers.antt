@@ -1,6 +1,6 @@
-use Rattle.std.proofs.Common.{◌<◌, ◌||◌, ◌∙◌, length, arith}
-use Rattle.std.specs.Prelude.{IsTrue}
+use Rattle.std.proofs.Common.{◌<◌, ◌∙◌, length, arith}
 use Rattle.std.proofs.lemmas.List.{length-set}
+use Rattle.unit_model.specs.Marks.{Counts}
 use Rattle.unit_model.specs.declared.required.Required.{Required}
 use Rattle.unit_model.proofs.Marking.{fewer, step_kept, step_sound}
 use Rattle.unit_model.proofs.tests.chains.close.Goals as goal
@@ -14,7 +14,7 @@ loop-place-smaller c =
 
 pub loop-place-preserved : goal.loop-place-preserved
 loop-place-preserved c =
-    let A : Required → Type 0 = λ r. IsTrue (c.args.all || r.greedy) in
+    let A : Required → Type 0 = Counts c.args.all in
     let found = c.in-Some.ensures in
     let size = c.loop-place.invariant.size in
     let inside : c.in-Some.place < length c.loop-place.marks = omega (arith, found.0, size) in

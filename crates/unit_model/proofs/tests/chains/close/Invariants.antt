@@ -1,8 +1,6 @@
-use Rattle.std.proofs.Common.{◌≡◌, ℕ, ◌||◌, List, length}
-use Rattle.std.specs.Prelude.{IsTrue}
-use Rattle.unit_model.specs.Marks.{IsMarked, IsSound}
+use Rattle.std.proofs.Common.{◌≡◌, ℕ, List, length}
+use Rattle.unit_model.specs.Marks.{Counts, IsMarked, IsSound}
 use Rattle.unit_model.specs.declared.name.UnitName.{UnitName}
-use Rattle.unit_model.specs.declared.required.Required.{Required}
 use Rattle.unit_model.proofs.Marking.{unmarked}
 use Rattle.unit_model.proofs.tests.chains.close.Given as goal
 
@@ -11,7 +9,7 @@ abbrev pub invariant-loop-place : goal.invariant-loop-place
 invariant-loop-place l = record {
   size : length l.marks ≡ length l.units;
   kept : (k : ℕ) → IsMarked l.initial.marks k → IsMarked l.marks k;
-  sound : (roots : List UnitName) → IsSound (λ (r : Required). IsTrue (l.all || r.greedy)) l.units l.initial.marks roots l.env → IsSound (λ (r : Required). IsTrue (l.all || r.greedy)) l.units l.marks roots l.env;
+  sound : (roots : List UnitName) → IsSound (Counts l.all) l.units l.initial.marks roots l.env → IsSound (Counts l.all) l.units l.marks roots l.env;
 }
 
 abbrev pub decreases-loop-place : goal.decreases-loop-place

@@ -169,22 +169,39 @@ fn each_unit_has_a_chain_from_either_kind_of_root(rt: HostRuntime) -> Result<(),
     Ok(())
 }
 
-/// A pair with a requirement that has no filter, where one of the units is for linux alone.
-fn linux_pair(alloc: Global, provider: bool) -> Result<List<Unit>, NoMemory> {
+/// A unit that asks for the capability, whatever the environment.
+fn asking(alloc: Global) -> Result<Unit, NoMemory> {
     let mut asked = super::required(alloc)?;
     asked.filter = None;
-    let mut asking = plain(alloc, "a")?;
-    asking.required.push(asked)?;
-    let mut providing = plain(alloc, "p")?;
-    provide(alloc, &mut providing, "cap")?;
-    if provider {
-        providing.filter = Some(filter(alloc)?);
-    } else {
-        asking.filter = Some(filter(alloc)?);
-    }
+    let mut unit = plain(alloc, "a")?;
+    unit.required.push(asked)?;
+    Ok(unit)
+}
+
+fn providing(alloc: Global) -> Result<Unit, NoMemory> {
+    let mut unit = plain(alloc, "p")?;
+    provide(alloc, &mut unit, "cap")?;
+    Ok(unit)
+}
+
+fn limit_to_linux(alloc: Global, unit: &mut Unit) -> Result<(), NoMemory> {
+    unit.filter = Some(filter(alloc)?);
+    Ok(())
+}
+
+/// A pair of which one is for linux alone.
+fn linux_pair(alloc: Global, provider: bool) -> Result<List<Unit>, NoMemory> {
     let mut units = List::new(alloc);
-    units.push(asking)?;
-    units.push(providing)?;
+    let mut first = asking(alloc)?;
+    if !provider {
+        limit_to_linux(alloc, &mut first)?;
+    }
+    units.push(first)?;
+    let mut second = providing(alloc)?;
+    if provider {
+        limit_to_linux(alloc, &mut second)?;
+    }
+    units.push(second)?;
     Ok(units)
 }
 

@@ -1,4 +1,5 @@
 pub mod Applies
+pub mod Marks
 pub mod Matches
 pub mod Met
 pub mod Profile

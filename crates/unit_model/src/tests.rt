@@ -1,3 +1,8 @@
+mod chains;
+mod judges;
+mod worked;
+mod worked_chains;
+
 use super::*;
 use ldap_filter::{Env, Filter, Test};
 use osgi_version::{List, NoMemory, Range, Text, Twin, Version};

@@ -1,5 +1,5 @@
 -- Where a text stops being the front of a filter's text, and what a whole one denotes.
-use Rattle.std.proofs.Common.{◌≡◌, ◌≢◌, ◌==◌, ℕ, suc, Bool, false, cond, drop-cons, ◌+◌, ◌<◌, ◌⊎◌, inl, inr, true, Option, Some, None, option_and_then, option_map, Ok, Err, List, [], ◌∷◌, ◌++◌, length, get_or, take, drop, refl, ap, sym, subst, ◌∙◌, arith, append_assoc, append-nil, le_refl, take_all, take-take, take-append-drop, lit<}
+use Rattle.std.proofs.Common.{◌≡◌, ◌≢◌, ◌==◌, ℕ, suc, Bool, false, cond, drop-cons, ◌+◌, ◌<◌, true, Option, Some, None, option_and_then, List, [], ◌∷◌, ◌++◌, length, get_or, take, drop, refl, ap, sym, subst, ◌∙◌, arith, append_assoc, append-nil, le_refl, take_all, take-take, take-append-drop, lit<}
 use Rattle.std.specs.Str.{IsUtf8}
 use Rattle.std.proofs.lemmas.List.{take_more}
 use Rattle.std.proofs.lemmas.List.Elements.{All-head, All-tail}

@@ -1,5 +1,5 @@
 -- What is read of a text stays the front of a filter's text, byte by byte.
-use Rattle.std.proofs.Common.{◌≡◌, ℕ, suc, ◌+◌, ◌<◌, ◌≤◌, ◌⊎◌, inl, inr, ◌==◌, ◌||◌, not, max, nat_lt, Bool, true, false, cond, Option, Some, None, option_and_then, List, [], ◌∷◌, ◌++◌, length, map, refl, ap, sym, subst, ◌∙◌, arith, append_assoc, append-nil, lit≤}
+use Rattle.std.proofs.Common.{◌≡◌, ℕ, suc, ◌+◌, ◌<◌, ◌≤◌, ◌⊎◌, inl, inr, ◌==◌, ◌||◌, max, nat_lt, Bool, true, false, cond, Option, Some, None, option_and_then, List, [], ◌∷◌, ◌++◌, length, map, refl, ap, sym, subst, ◌∙◌, arith, append_assoc, append-nil, lit≤}
 use Rattle.std.specs.Prelude.{⊤}
 use Rattle.std.specs.List.{AllPass}
 use Rattle.std.proofs.lemmas.Bool.Decides.{nat_tests}
@@ -7,10 +7,9 @@ use Rattle.std.proofs.lemmas.List.Elements.{All-nil, All-push, All-append, All-w
 use Rattle.osgi_version.specs.VersionText.{is_white}
 use Rattle.osgi_version.specs.Begins.{Begins}
 use Rattle.ldap_filter.specs.EnvPairs.{lowered}
-use Rattle.ldap_filter.specs.FilterText.{IsWhite, is_attribute_byte, IsAttribute, IsTest, Denotes, DenoteEach, AllOf, AnyOf, NoneOf, Single, Last, More, greatest, nesting, DenotesFilter, IsFilterText}
+use Rattle.ldap_filter.specs.FilterText.{IsWhite, is_attribute_byte, IsAttribute, Denotes, DenoteEach, AllOf, AnyOf, NoneOf, Single, Last, More, greatest, nesting, DenotesFilter, IsFilterText}
 use Rattle.ldap_filter.specs.FilterValue.{scan}
-use Rattle.ldap_filter.specs.FilterSteps.{Part, Outside, Opened, Attribute, Comparing, Valued, Escaping, Turn, Refused, Goes, Enters, Opens, Closes, Ends, State, at_part, beginning, begun, takes, received, composite, test_of, added, opened, closed, entered, turned, step, turn, group_turn, operator_turn, sign_of, operator_of, run}
-use Rattle.ldap_filter.specs.declared.test.Test.{Test}
+use Rattle.ldap_filter.specs.FilterSteps.{Part, Outside, Opened, Attribute, Comparing, Valued, Escaping, Turn, Goes, Opens, State, at_part, beginning, begun, takes, received, test_of, added, closed, entered, turned, step, turn, group_turn, operator_turn, sign_of, operator_of, run}
 use Rattle.ldap_filter.specs.declared.filter.Filter.{Filter}
 use Rattle.ldap_filter.specs.declared.filter.Filter.TheVariants as filter
 use Rattle.ldap_filter.specs.declared.frame.Sign.{Sign}

@@ -1,8 +1,8 @@
 -- What a reader has read of a text, and what follows where it stops.
-use Rattle.std.proofs.Common.{◌≡◌, ℕ, ◌+◌, ◌<◌, ◌≤◌, Option, Some, None, option_map, List, length, get_or, take, ap, sym, subst, ◌∙◌, le_refl, take_all}
+use Rattle.std.proofs.Common.{◌≡◌, ℕ, ◌+◌, ◌<◌, Option, Some, None, option_map, List, length, get_or, take, ap, sym, subst, ◌∙◌, le_refl, take_all}
 use Rattle.osgi_version.specs.Begins.{IsLongestBegin}
 use Rattle.ldap_filter.specs.FilterText.{DenotesFilter, IsFilterText}
-use Rattle.ldap_filter.specs.FilterSteps.{State, beginning, run, step, whole_in}
+use Rattle.ldap_filter.specs.FilterSteps.{beginning, run, step, whole_in}
 use Rattle.ldap_filter.specs.FilterScan.{part_in, IsScanAt}
 use Rattle.ldap_filter.specs.FilterReading.{frames_in, seen, IsReadTo}
 use Rattle.ldap_filter.specs.declared.filter.Filter.{Filter}

@@ -1,14 +1,14 @@
 -- Reading a text that denotes a filter goes through to the end.
-use Rattle.std.proofs.Common.{◌≡◌, ◌≢◌, ℕ, suc, ◌+◌, ◌<◌, ◌≤◌, ◌==◌, ◌||◌, not, max, nat_eq, nat_lt, Bool, true, false, cond, Option, Some, None, option_map, option_and_then, List, [], ◌∷◌, ◌++◌, length, map, refl, ap, sym, subst, ◌∙◌, arith, append_assoc, append-nil}
+use Rattle.std.proofs.Common.{◌≡◌, ◌≢◌, ℕ, suc, ◌+◌, ◌<◌, ◌≤◌, ◌==◌, ◌||◌, nat_eq, nat_lt, Bool, true, false, cond, Option, Some, None, option_and_then, List, [], ◌∷◌, ◌++◌, length, map, refl, ap, sym, subst, ◌∙◌, arith, append_assoc, append-nil}
 use Rattle.std.specs.List.{AllPass}
 use Rattle.std.specs.Cmp.Lexicographic.{pointwise, same_text}
 use Rattle.std.proofs.lemmas.Bool.Decides.{nat_tests}
 use Rattle.std.proofs.lemmas.List.Elements.{All-head, All-tail, All-nil, All-push}
 use Rattle.osgi_version.specs.VersionText.{is_white}
 use Rattle.ldap_filter.specs.EnvPairs.{lowered}
-use Rattle.ldap_filter.specs.FilterText.{IsWhite, is_attribute_byte, IsAttribute, IsValue, ArePieces, IsTest, Denotes, DenoteEach, AllOf, AnyOf, NoneOf, Single, Last, More, greatest, level_nesting, nesting, DenotesFilter}
-use Rattle.ldap_filter.specs.FilterValue.{scan, plain, pieces}
-use Rattle.ldap_filter.specs.FilterSteps.{Part, Outside, Opened, Attribute, Comparing, Valued, Escaping, State, at_part, beginning, begun, takes, received, test_of, added, step, turn, sign_of, run}
+use Rattle.ldap_filter.specs.FilterText.{IsWhite, is_attribute_byte, IsAttribute, IsTest, Denotes, DenoteEach, AllOf, AnyOf, NoneOf, Single, Last, More, greatest, level_nesting, nesting, DenotesFilter}
+use Rattle.ldap_filter.specs.FilterValue.{scan, pieces}
+use Rattle.ldap_filter.specs.FilterSteps.{Part, Outside, Opened, Attribute, Valued, Escaping, State, at_part, beginning, begun, takes, received, test_of, step, sign_of, run}
 use Rattle.ldap_filter.specs.declared.test.Test.{Test}
 use Rattle.ldap_filter.specs.declared.test.Test.TheVariants as test
 use Rattle.ldap_filter.specs.declared.filter.Filter.{Filter}

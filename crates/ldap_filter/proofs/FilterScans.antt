@@ -1,11 +1,11 @@
 -- A scan's move against the turn of what the scan stands for.
-use Rattle.std.proofs.Common.{◌≡◌, ℕ, ◌+◌, ◌-◌, ◌<◌, ◌≤◌, ◌==◌, Bool, true, false, cond, Option, Some, None, List, [], ◌∷◌, ◌++◌, length, get_or, take, drop, slice_range, refl, ap, sym, subst, ◌∙◌, arith, append_assoc}
+use Rattle.std.proofs.Common.{◌≡◌, ℕ, ◌+◌, ◌-◌, ◌<◌, ◌≤◌, ◌==◌, Bool, true, false, cond, Option, Some, None, List, [], ◌∷◌, ◌++◌, length, get_or, take, drop, slice_range, refl, ap, sym, ◌∙◌, arith}
 use Rattle.std.proofs.Math.Seq.{take-add}
 use Rattle.std.proofs.lemmas.List.{drop-drop}
 use Rattle.osgi_version.specs.VersionText.{is_white}
 use Rattle.osgi_version.proofs.VersionViews.{slice_range-more}
 use Rattle.ldap_filter.specs.FilterText.{is_attribute_byte}
-use Rattle.ldap_filter.specs.FilterSteps.{Part, Attribute, Comparing, Valued, Escaping, Turn, Goes, turn, group_turn, operator_turn, sign_of, operator_of}
+use Rattle.ldap_filter.specs.FilterSteps.{Part, Attribute, Valued, Escaping, Turn, Goes, turn, group_turn, operator_turn, operator_of}
 use Rattle.ldap_filter.specs.FilterScan.{staged, part_in, turn_in, IsScanAt, group_move, operator_move, attribute_move, value_move}
 use Rattle.ldap_filter.specs.declared.frame.Sign.{Sign}
 use Rattle.ldap_filter.specs.declared.scan.Scan.{Scan}

@@ -2,9 +2,8 @@
 use Rattle.std.proofs.Common.{◌≡◌, ◌≢◌, ℕ, nat_eq, Bool, true, false, Some, List, [], ◌∷◌, ◌++◌, cond, refl, ap, sym, subst}
 use Rattle.std.specs.Cmp.Lexicographic.{pointwise, same_text}
 use Rattle.ldap_filter.specs.FilterText.{IsTest}
-use Rattle.ldap_filter.specs.FilterValue.{scan, plain, pieces}
+use Rattle.ldap_filter.specs.FilterValue.{scan, pieces}
 use Rattle.ldap_filter.specs.FilterSteps.{test_of}
-use Rattle.ldap_filter.specs.declared.test.Test.{Test}
 use Rattle.ldap_filter.specs.declared.test.Test.TheVariants as test
 use Rattle.ldap_filter.specs.declared.scan.Operator.{Operator}
 use Rattle.ldap_filter.specs.declared.scan.Operator.TheVariants as operator

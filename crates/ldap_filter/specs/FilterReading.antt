@@ -1,6 +1,5 @@
 -- What a reader of a filter's text stands for. Clauses of private functions alone cite this.
-use Rattle.std.specs.Prelude.{◌≡◌, ℕ, Option, Some, None, List, ◌∷◌, reverse, take, ⊤}
-use Rattle.std.specs.Str.{IsUtf8}
+use Rattle.std.specs.Prelude.{◌≡◌, ℕ, Option, Some, None, List, ◌∷◌, reverse, take}
 use Rattle.ldap_filter.specs.FilterSteps.{Part, State, at_part, beginning, run}
 use Rattle.ldap_filter.specs.FilterScan.{part_in, IsScanAt}
 use Rattle.ldap_filter.specs.declared.frame.Frame.{Frame}

@@ -1,5 +1,5 @@
 -- How a filter's text is read byte by byte. Clauses of private functions alone cite this.
-use Rattle.std.specs.Prelude.{ℕ, ◌==◌, ◌||◌, ◌&&◌, not, Bool, true, false, nat_lt, nat_eq, if◌then◌else◌, Option, Some, None, option_map, option_and_then, List, [], ◌∷◌, ◌++◌, length}
+use Rattle.std.specs.Prelude.{ℕ, ◌==◌, Bool, true, false, nat_lt, nat_eq, if◌then◌else◌, Option, Some, None, option_and_then, List, [], ◌∷◌, ◌++◌, length}
 use Rattle.std.specs.Cmp.Lexicographic.{pointwise}
 use Rattle.osgi_version.specs.VersionText.{is_white}
 use Rattle.ldap_filter.specs.EnvPairs.{lowered}

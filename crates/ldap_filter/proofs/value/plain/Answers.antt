@@ -1,7 +1,6 @@
-use Rattle.std.proofs.Common.{◌≡◌, ℕ, ◌≤◌, false, Some, Bool, List, ◌++◌, length, drop, sym, ap, ◌∙◌, append-nil}
+use Rattle.std.proofs.Common.{◌≡◌, ℕ, ◌≤◌, Bool, List, ◌++◌, length, drop, sym, ap, ◌∙◌, append-nil}
 use Rattle.std.proofs.lemmas.List.{drop_all}
-use Rattle.std.specs.Str.{IsUtf8}
-use Rattle.ldap_filter.specs.FilterValue.{scan, plain_from, plain}
+use Rattle.ldap_filter.specs.FilterValue.{plain_from, plain}
 use Rattle.ldap_filter.proofs.FilterValues.{plain_utf8}
 use Rattle.ldap_filter.proofs.value.plain.Goals as goal
 

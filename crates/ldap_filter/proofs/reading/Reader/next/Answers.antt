@@ -1,4 +1,3 @@
-use Rattle.std.proofs.Common.{◌≡◌, Some}
 use Rattle.ldap_filter.specs.FilterScan.{part_in}
 use Rattle.ldap_filter.specs.FilterReading.{frames_in}
 use Rattle.ldap_filter.proofs.FilterPlaces.{item_known}

@@ -1,23 +1,22 @@
 -- How far the keeping of an entry came, and what a crash leaves of it.
-use Rattle.std.proofs.Common.{◌≡◌, ◌≢◌, ◌⊎◌, inl, inr, ⊎_elim, ℕ, zero, suc, ◌+◌, ◌-◌, ◌^◌, ◌<◌, ◌≤◌, List, [], ◌∷◌, ◌++◌, length, take, Option, Some, None, Contains, refl, sym, ◌∙◌, ap, subst, arith, length-append}
-use Rattle.std.specs.Prelude.{codes, IfSome}
-use Rattle.std.specs.Fmt.{decimal}
+use Rattle.std.proofs.Common.{◌≡◌, ◌≢◌, ◌⊎◌, inl, inr, ⊎_elim, ℕ, zero, suc, ◌+◌, ◌^◌, ◌<◌, ◌≤◌, List, [], ◌∷◌, ◌++◌, length, Option, Some, None, Contains, refl, sym, ◌∙◌, ap, subst, arith, length-append}
 use Rattle.std.proofs.lemmas.List.{append_assoc}
 use Rattle.folder_core.specs.Folder.{Map, Told, IsFormed, CanSet, NothingBelow, SameBut, set_at}
-use Rattle.folder_core.specs.Crash.{IsImage, Touches, AllImages, Elapses, EachLeft}
+use Rattle.folder_core.specs.Crash.{IsImage, AllImages, Elapses, EachLeft}
 use Rattle.folder_core.specs.Step.{OnTold, Step}
-use Rattle.folder_core.specs.Node.{IsNode, IsSmallAt, entries_path}
-use Rattle.folder_core.specs.Path.{IsPath, parent}
+use Rattle.folder_core.specs.Node.{entries_path}
+use Rattle.folder_core.specs.Path.{parent}
 use Rattle.folder_core.specs.declared.node.Node.{Node}
 use Rattle.folder_core.specs.declared.node.Node.TheVariants.{File, Dir}
 use Rattle.folder_core.specs.declared.node.Touch.{Touch}
-use Rattle.folder_core.proofs.Maps.{changed_here, changed_other, same_path, IsFormed-set_at, front_last, parent-push, push_some}
+use Rattle.folder_core.proofs.Maps.{changed_here, changed_other, IsFormed-set_at, front_last, parent-push, push_some}
 use Rattle.backup_store.specs.Entry.{IsEntry}
 use Rattle.backup_store.specs.EntryText.{entry_text}
-use Rattle.backup_store.specs.Held.{IsFileOf, Counts, HoldsEntry, mark_text}
-use Rattle.backup_store.specs.Keeping.{HasNoMark, HasRoom, SameButEntry, IsUnmarked, IsWritten, LeavesEntry, IsBegun, IsSynced, HasCome, IsKept, IsCounted}
+use Rattle.backup_store.specs.Held.{mark_text}
+use Rattle.backup_store.specs.Keeping.{HasNoMark, HasRoom, SameButEntry, IsUnmarked, IsWritten, LeavesEntry, IsBegun, HasCome, IsKept, IsCounted}
 use Rattle.backup_store.specs.Places.{entry_path, mark_path}
-use Rattle.backup_store.specs.Settling.{IsStill, IsTouchedImage, IsSettled, IsUnsettled, IsEntered, entry_touch, mark_touch}
+use Rattle.backup_store.specs.Looking.{IsStill}
+use Rattle.backup_store.specs.Settling.{IsTouchedImage, IsSettled, IsUnsettled, IsEntered, entry_touch, mark_touch}
 use Rattle.std.proofs.lemmas.List.Elements.{Contains-append_right}
 use Rattle.backup_store.proofs.Moments.{on_told, on_told_one, leaves_first, each_image}
 use Rattle.backup_store.proofs.Names.{mark_is_path, mark_apart}

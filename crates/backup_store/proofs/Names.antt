@@ -1,18 +1,16 @@
 -- The names of the journal's places are names, and tell the places apart.
-use Rattle.std.proofs.Common.{◌≡◌, ◌≢◌, ℕ, zero, suc, ◌+◌, ◌^◌, ◌<◌, ◌≤◌, Bool, true, false, List, [], ◌∷◌, ◌++◌, length, get_or, All, Contains, refl, sym, ◌∙◌, ap, subst, arith, lit≤, ⊎_elim, length-append}
+use Rattle.std.proofs.Common.{◌≡◌, ◌≢◌, ℕ, ◌+◌, ◌^◌, ◌<◌, ◌≤◌, List, [], ◌∷◌, ◌++◌, length, get_or, All, refl, ap, arith, lit≤, ⊎_elim, length-append}
 use Rattle.std.specs.Prelude.{codes}
 use Rattle.std.specs.Fmt.{decimal}
 use Rattle.std.specs.Str.{IsAscii}
 use Rattle.std.proofs.lemmas.Str.{IsUtf8-from_ascii}
 use Rattle.std.proofs.lemmas.Bool.{cases_lt}
-use Rattle.std.proofs.lemmas.Fmt.{length-decimal-le, decimal_nonempty}
-use Rattle.std.proofs.lemmas.List.{get_or_past, append_cancel_left}
+use Rattle.std.proofs.lemmas.Fmt.{length-decimal-le}
+use Rattle.std.proofs.lemmas.List.{get_or_past}
 use Rattle.std.proofs.lemmas.List.Elements.{All-head, All-nil, All-cons, All-append, All-contains}
 use Rattle.folder_core.specs.Name.{IsName}
-use Rattle.folder_core.specs.Path.{IsPath, IsBelow}
-use Rattle.folder_core.specs.Node.{entries_path, IsSmallAt}
-use Rattle.folder_core.specs.declared.node.Node.{Node}
-use Rattle.folder_core.specs.declared.node.Node.TheVariants.{File, Dir, Link}
+use Rattle.folder_core.specs.Path.{IsPath}
+use Rattle.folder_core.specs.Node.{entries_path}
 use Rattle.folder_core.proofs.Paths.{IsPath-nil, IsPath-push}
 use Rattle.backup_store.specs.Places.{entry_path, mark_path}
 use Rattle.backup_store.proofs.Texts.{AreDigits, AreDigits-decimal}

@@ -1,21 +1,21 @@
 -- An entry is found, and its path set to the old node.
-use Rattle.std.proofs.Common.{◌≡◌, ◌≢◌, ◌⊎◌, inl, inr, ⊎_elim, ℕ, zero, suc, ◌<◌, ◌≤◌, Bool, true, false, eqb, List, [], ◌∷◌, length, get_or, Option, Some, None, Contains, Decides, refl, sym, ◌∙◌, ap, subst, arith}
+use Rattle.std.proofs.Common.{◌≡◌, ◌≢◌, inl, inr, ⊎_elim, ℕ, ◌≤◌, Bool, eqb, List, [], ◌∷◌, length, get_or, Option, Some, None, Contains, sym, ◌∙◌, ap, subst, arith}
 use Rattle.std.specs.Prelude.{codes, not, IfSome, MatchOption}
 use Rattle.std.specs.Bool.{IsTrue}
 use Rattle.std.specs.Cmp.Lexicographic.{pointwise}
 use Rattle.std.proofs.lemmas.Bool.{both_ways, cases_Bool}
 use Rattle.std.proofs.lemmas.Slice.Eq.{bytes_eq-Decides}
-use Rattle.folder_core.specs.Folder.{Map, Told, CanSet, SameBut, set_at}
+use Rattle.folder_core.specs.Folder.{Map, Told, CanSet, SameBut}
 use Rattle.folder_core.specs.Crash.{IsImage, Touches, Elapses}
 use Rattle.folder_core.specs.Node.{IsNode, IsSmallAt}
 use Rattle.folder_core.specs.Step.{OnTold, Step}
 use Rattle.folder_core.specs.declared.node.Node.{Node}
 use Rattle.folder_core.specs.declared.node.Node.TheVariants.{File, Dir, Link}
-use Rattle.backup_store.specs.Entry.{IsOldNode, IsEntry}
-use Rattle.backup_store.specs.Held.{HoldsEntry, CanRestore, IsDamaged}
+use Rattle.backup_store.specs.Entry.{IsOldNode}
+use Rattle.backup_store.specs.Held.{CanRestore, IsDamaged}
 use Rattle.backup_store.specs.Places.{entry_path, IsOutside}
-use Rattle.backup_store.specs.PuttingBack.{HasRoomBack, PutsBack, IsEntryPath, SameButRestored, TouchesRestored, IsRestorable, IsNoRestorable}
-use Rattle.backup_store.specs.Settling.{IsStill}
+use Rattle.backup_store.specs.PuttingBack.{HasRoomBack, SameButRestored, TouchesRestored, IsRestorable, IsNoRestorable}
+use Rattle.backup_store.specs.Looking.{IsStill}
 use Rattle.backup_store.specs.declared.entry.Entry.{Entry}
 use Rattle.backup_store.proofs.Bools.{not_true, is_true}
 use Rattle.backup_store.proofs.Moments.{on_two, on_both, on_told, Elapses-then}

@@ -1,13 +1,13 @@
 -- What the parts of an entry's text may be.
-use Rattle.std.proofs.Common.{◌≡◌, ◌≢◌, ℕ, zero, suc, ◌+◌, ◌^◌, ◌/◌, ◌%◌, ◌<◌, ◌≤◌, List, [], ◌∷◌, ◌++◌, length, get_or, drop, Option, Some, None, Contains, refl, sym, ◌∙◌, ap, subst, arith}
-use Rattle.std.specs.Prelude.{codes, IfSome, MatchOption, Result, Ok, Err, IfOk}
+use Rattle.std.proofs.Common.{◌≡◌, ◌≢◌, ℕ, ◌<◌, ◌≤◌, List, [], ◌∷◌, ◌++◌, length, drop, Option, Some, None, Contains, refl, sym, ◌∙◌, ap, subst, arith}
+use Rattle.std.specs.Prelude.{codes, MatchOption, Result, Ok, Err, IfOk}
 use Rattle.std.specs.Fmt.{decimal}
 use Rattle.std.specs.Str.{IsUtf8}
 use Rattle.osgi_version.specs.Field.{field, IsFieldOf, IsNoField}
-use Rattle.folder_core.specs.Path.{IsPath, IsPathOf, HasNoPath, path_text}
+use Rattle.folder_core.specs.Path.{IsPathOf, HasNoPath, path_text}
 use Rattle.folder_core.specs.declared.node.Node.{Node}
 use Rattle.folder_core.specs.declared.node.Node.TheVariants.{File, Dir, Link}
-use Rattle.backup_store.specs.Entry.{IsOldNode, IsEntry, IsEntryOf, IsNoEntry}
+use Rattle.backup_store.specs.Entry.{IsEntryOf, IsNoEntry}
 use Rattle.backup_store.specs.EntryText.{node_text, entry_text, mode_digits}
 use Rattle.backup_store.specs.Parts.{IsPathField, IsNoPathField, IsNodeText, IsNoNodeText, IsNodeBehind, IsNoNodeBehind}
 use Rattle.osgi_version.proofs.Fields.{field_injective, no_lf_field}

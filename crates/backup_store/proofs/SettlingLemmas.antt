@@ -1,11 +1,12 @@
 -- A `set` and a `sync`, one after the other.
-use Rattle.std.proofs.Common.{◌≡◌, ◌⊎◌, inl, inr, ⊎_elim, ℕ, zero, suc, ◌<◌, ◌≤◌, List, [], ◌∷◌, Option, Some, None, Result, Ok, Err, OnErr, Contains, sym, ◌∙◌, ap, subst, arith}
+use Rattle.std.proofs.Common.{◌≡◌, ◌⊎◌, inl, inr, ⊎_elim, ℕ, List, [], ◌∷◌, Option, Result, Ok, Err, OnErr, Contains, sym, ◌∙◌, ap, subst, arith}
 use Rattle.std.proofs.lemmas.List.Elements.{Contains-append_right}
 use Rattle.folder_core.specs.Folder.{Map, Told, SameBut}
 use Rattle.folder_core.specs.Crash.{IsImage, Touches, Elapses}
-use Rattle.folder_core.specs.Step.{OnTold, Step}
+use Rattle.folder_core.specs.Step.{Step}
 use Rattle.folder_core.specs.declared.node.Touch.{Touch}
-use Rattle.backup_store.specs.Settling.{IsStill, IsTouchedImage, IsUnsettled}
+use Rattle.backup_store.specs.Looking.{IsStill}
+use Rattle.backup_store.specs.Settling.{IsTouchedImage, IsUnsettled}
 use Rattle.backup_store.proofs.Moments.{on_two, on_both}
 
 pub on_err : {V E : Type 0} {P : Type 0} (result : Result V E) → P → OnErr result P

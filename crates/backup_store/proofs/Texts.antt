@@ -1,7 +1,7 @@
 -- The parts of an entry's text: no LF in a line, and how long they are.
-use Rattle.std.proofs.Common.{◌≡◌, ◌≢◌, ℕ, zero, suc, ◌+◌, ◌*◌, ◌^◌, ◌/◌, ◌%◌, ◌<◌, ◌≤◌, Bool, true, false, List, [], ◌∷◌, ◌++◌, length, get_or, Option, Some, None, All, Contains, refl, sym, ◌∙◌, ap, subst, arith, lit<, length-append}
-use Rattle.std.specs.Prelude.{codes, IfSome}
-use Rattle.std.specs.List.{flat_map, join_with_byte}
+use Rattle.std.proofs.Common.{◌≡◌, ◌≢◌, ℕ, zero, suc, ◌+◌, ◌*◌, ◌^◌, ◌/◌, ◌%◌, ◌<◌, ◌≤◌, List, [], ◌∷◌, ◌++◌, length, Option, Some, None, All, Contains, refl, sym, ◌∙◌, ap, subst, arith, lit<, length-append}
+use Rattle.std.specs.Prelude.{IfSome}
+use Rattle.std.specs.List.{flat_map}
 use Rattle.std.specs.Fmt.{decimal}
 use Rattle.std.specs.Str.{IsUtf8, IsAscii}
 use Rattle.std.proofs.lemmas.Str.{IsUtf8-append, IsUtf8-nil, IsUtf8-from_ascii}
@@ -13,7 +13,7 @@ use Rattle.folder_core.specs.Path.{IsPath, path_text}
 use Rattle.folder_core.specs.declared.node.Node.{Node}
 use Rattle.folder_core.specs.declared.node.Node.TheVariants.{File, Dir, Link}
 use Rattle.backup_store.specs.Entry.{IsOldNode, IsEntry}
-use Rattle.backup_store.specs.EntryText.{node_text, entry_text, mode_digits}
+use Rattle.backup_store.specs.EntryText.{node_text, entry_text}
 use Rattle.osgi_version.proofs.Bytes.{cond_holds}
 use Rattle.backup_store.proofs.Fronts.{same_parts, contains_cut}
 

@@ -1,14 +1,14 @@
 -- An entry has one text, and a text is that of one entry at most.
-use Rattle.std.proofs.Common.{◌≡◌, ◌≢◌, ℕ, zero, suc, ◌+◌, ◌^◌, ◌/◌, ◌%◌, ◌<◌, ◌≤◌, List, [], ◌∷◌, ◌++◌, length, get_or, drop, Option, Some, None, refl, sym, ◌∙◌, ap, subst, arith}
-use Rattle.std.specs.Prelude.{codes, IfSome}
+use Rattle.std.proofs.Common.{◌≡◌, ℕ, ◌+◌, ◌/◌, ◌%◌, List, [], ◌∷◌, ◌++◌, length, get_or, drop, Option, Some, None, refl, sym, ◌∙◌, ap, arith}
+use Rattle.std.specs.Prelude.{IfSome}
 use Rattle.std.specs.Fmt.{decimal}
 use Rattle.osgi_version.specs.Field.{field}
-use Rattle.folder_core.specs.Path.{IsPath, path_text}
+use Rattle.folder_core.specs.Path.{path_text}
 use Rattle.folder_core.specs.Folder.{Map}
 use Rattle.folder_core.specs.declared.node.Node.{Node}
 use Rattle.folder_core.specs.declared.node.Node.TheVariants.{File, Dir, Link}
 use Rattle.backup_store.specs.Entry.{IsOldNode, IsEntry, IsEntryOf}
-use Rattle.backup_store.specs.EntryText.{node_text, entry_text, mode_digits}
+use Rattle.backup_store.specs.EntryText.{node_text, entry_text}
 use Rattle.backup_store.specs.Held.{HoldsEntry}
 use Rattle.backup_store.specs.Places.{entry_path}
 use Rattle.osgi_version.proofs.Fields.{field_injective, no_lf_field}

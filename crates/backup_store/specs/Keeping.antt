@@ -1,9 +1,8 @@
 -- What keeping an entry does to a folder, and what a crash leaves of it.
-use Rattle.std.specs.Prelude.{◌≡◌, ◌≢◌, ◌⊎◌, ℕ, List, [], ◌∷◌, codes, Option, Some, None, Contains}
+use Rattle.std.specs.Prelude.{◌≡◌, ◌≢◌, ◌⊎◌, ℕ, List, [], ◌∷◌, Some, None, Contains}
 use Rattle.folder_core.specs.Folder.{Map, Told, IsFormed, NothingBelow}
 use Rattle.folder_core.specs.Crash.{IsImage, Touches}
 use Rattle.folder_core.specs.Node.{entries_path}
-use Rattle.folder_core.specs.declared.node.Node.{Node}
 use Rattle.folder_core.specs.declared.node.Node.TheVariants.{File, Dir}
 use Rattle.backup_store.specs.EntryText.{entry_text}
 use Rattle.backup_store.specs.Held.{mark_text, Counts, HoldsEntry}

@@ -3,6 +3,7 @@ pub mod EntryText
 pub mod Fault
 pub mod Held
 pub mod Keeping
+pub mod Looking
 pub mod Parts
 pub mod Places
 pub mod PuttingBack

@@ -10,12 +10,6 @@ use Rattle.backup_store.specs.EntryText.{entry_text}
 use Rattle.backup_store.specs.Held.{mark_text}
 use Rattle.backup_store.specs.Places.{entry_path, mark_path}
 
--- Time alone has gone on.
-pub record IsStill (s t : Told) : Type 0 where
-  pub now : t.now ≡ s.now
-  pub synced : t.synced ≡ s.synced
-  pub touched : t.touched ≡ s.touched
-
 -- What a crash may leave where the path has been touched too.
 abbrev pub IsTouchedImage : List (List ℕ) → Told → Map → Type 0
 IsTouchedImage path s m = IsImage (record s { touched = path ∷ s.touched }) m

@@ -10,7 +10,8 @@ ghost use Rattle.backup_store.specs.Entry.{IsEntry, IsSmall};
 ghost use Rattle.backup_store.specs.Fault.{IfDamaged};
 ghost use Rattle.backup_store.specs.Keeping.{HasRoom, HasNoMark, SameButEntry, HasCome, IsBegun, LeavesEntry, IsKept, IsCounted};
 ghost use Rattle.backup_store.specs.Places.{entry_path, mark_path, IsOutside};
-ghost use Rattle.backup_store.specs.Settling.{IsStill, IsTouchedImage, IsSettled, IsUnsettled, IsEntered, entry_touch, mark_touch};
+ghost use Rattle.backup_store.specs.Looking.{IsStill};
+ghost use Rattle.backup_store.specs.Settling.{IsTouchedImage, IsSettled, IsUnsettled, IsEntered, entry_touch, mark_touch};
 
 use crate::entry::{Entry, EntryNumber};
 use crate::fault::StoreFault;

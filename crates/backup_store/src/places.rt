@@ -9,7 +9,7 @@ use osgi_version::{NoMemory, Text};
 use std::alloc::Global;
 
 /// Where the file of an entry stands: `.p2/e/K`.
-pub(crate) fn entry_path(alloc: Global, number: EntryNumber) -> Result<Path, NoMemory>
+pub fn entry_path(alloc: Global, number: EntryNumber) -> Result<Path, NoMemory>
     ensures path { IfOk result (λ path. path ≡ entry_path number.0) }
     ensures range { number.0 < 2 ^ 32 }
 {

@@ -5,7 +5,8 @@ ghost use Rattle.folder_core.specs.Folder.{CanSet};
 ghost use Rattle.folder_core.specs.Node.{IsNode, IsSmallAt};
 ghost use Rattle.folder_core.specs.Step.{OnTold, Step};
 ghost use Rattle.backup_store.specs.Fault.{IfDamaged};
-ghost use Rattle.backup_store.specs.Settling.{IsStill, IsTouchedImage, IsSettled, IsUnsettled};
+ghost use Rattle.backup_store.specs.Looking.{IsStill};
+ghost use Rattle.backup_store.specs.Settling.{IsTouchedImage, IsSettled, IsUnsettled};
 
 use crate::fault::StoreFault;
 use folder_core::{Folder, Touch};

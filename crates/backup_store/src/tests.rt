@@ -3,8 +3,8 @@ ghost use Rattle.folder_core.specs.Node.{IsNode};
 ghost use Rattle.backup_store.specs.Entry.{IsSmall};
 
 use super::*;
-use crate::places::{entry_path, mark_path};
-use crate::putting_back::is_outside;
+use crate::looking::is_outside;
+use crate::places::mark_path;
 use folder_core::{Blob, Failed, Folder, FolderError, Name, Node, Path, Touch};
 use folder_memory::MemoryFolder;
 use osgi_version::{List, NoMemory, Text};
@@ -210,6 +210,76 @@ fn what_stood_there_is_put_back(rt: HostRuntime) -> Result<(), Fail> {
     Ok(())
 }
 
+// Whether the first entry has this text, and its mark stands.
+fn is_kept(alloc: Global, folder: &Quiet, text: &str) -> Result<bool, Fail> {
+    let entry = file_of(alloc, 0o644, text.as_bytes())?;
+    let mark = file_of(alloc, 0o644, b"ok\n")?;
+    let has_text = folder.inner.node(&entry_path(alloc, EntryNumber(1))?) == Some(&entry);
+    let has_mark = folder.inner.node(&mark_path(alloc, EntryNumber(1))?) == Some(&mark);
+    Ok(has_text && has_mark)
+}
+
+#[test]
+fn what_stood_there_is_written(rt: HostRuntime) -> Result<(), Fail> {
+    let alloc = rt.alloc();
+    let path = path_of(alloc, "a")?;
+    let cases = [
+        ("", "p2entry 1\npath a\nnone\n"),
+        ("/", "p2entry 1\npath a\ndir\n"),
+        ("@", "p2entry 1\npath a\nlink d/%C3%A9%20%25\n"),
+        ("text", "p2entry 1\npath a\nfile 755 4\ntext"),
+    ];
+    for (kind, text) in cases {
+        let mut folder = journal(alloc)?;
+        put(&mut folder, &path, node_of(alloc, kind)?.as_ref())?;
+        keep_at(alloc, &mut folder, 1, &path)?;
+        assert!(rt; is_kept(alloc, &folder, text)?, "of {kind:?}");
+    }
+    Ok(())
+}
+
+#[test]
+fn what_was_kept_is_read(rt: HostRuntime) -> Result<(), Fail> {
+    let alloc = rt.alloc();
+    for kind in ["", "/", "@", "text"] {
+        let mut folder = journal(alloc)?;
+        let path = path_of(alloc, "a")?;
+        put(&mut folder, &path, node_of(alloc, kind)?.as_ref())?;
+        keep_at(alloc, &mut folder, 1, &path)?;
+        let before = node_of(alloc, kind)?;
+        let found = read_kept(alloc, &mut folder, EntryNumber(1))?;
+        assert!(rt; found == Some(Entry { path, before }), "of {kind:?}");
+        assert!(rt; read_kept(alloc, &mut folder, EntryNumber(2))?.is_none());
+    }
+    Ok(())
+}
+
+// Changes a kept link to a directory, and puts it back with one call failing: whether that failed, and whether the
+// directory still stands.
+fn put_back_failing(alloc: Global, call: u64) -> Result<(bool, bool), Fail> {
+    let mut folder = journal(alloc)?;
+    let path = path_of(alloc, "a")?;
+    put(&mut folder, &path, node_of(alloc, "@")?.as_ref())?;
+    keep_at(alloc, &mut folder, 1, &path)?;
+    put(&mut folder, &path, Some(&Node::Dir))?;
+    folder
+        .inner
+        .fail_at(List::from_vec(Vec::from_slice(alloc, &[call])?));
+    let back = put_back(alloc, &mut folder, EntryNumber(1));
+    let stays = folder.inner.node(&path) == Some(&Node::Dir);
+    Ok((back == Err(StoreFault::Failed), stays))
+}
+
+#[test]
+fn a_failing_call_puts_nothing_back(rt: HostRuntime) -> Result<(), Fail> {
+    let alloc = rt.alloc();
+    for (call, fails) in [(1, true), (2, true), (3, false)] {
+        let told = put_back_failing(alloc, call)?;
+        assert_eq!(rt; told, (fails, fails), "call {call}");
+    }
+    Ok(())
+}
+
 // Whether the entry and its mark stand now, and whether the mark stands in the image of what was synced.
 fn stands(alloc: Global, folder: &Quiet, number: u32) -> Result<(bool, bool, bool), Fail> {
     let entry = entry_path(alloc, EntryNumber(number))?;
@@ -298,5 +368,62 @@ fn damage_is_named(rt: HostRuntime) -> Result<(), Fail> {
             _ => assert!(rt; false, "case {case}"),
         }
     }
+    Ok(())
+}
+
+// Whether the entry counts, and the path of the entry that is kept there.
+fn found(alloc: Global, folder: &mut Quiet, number: u32) -> Result<(bool, Option<Path>), Fail> {
+    let number = EntryNumber(number);
+    let counted = counts(alloc, folder, number)?;
+    let kept = read_kept(alloc, folder, number)?;
+    Ok((counted, kept.map(|entry| entry.path)))
+}
+
+#[test]
+fn a_mark_decides_what_counts(rt: HostRuntime) -> Result<(), Fail> {
+    let alloc = rt.alloc();
+    let mut folder = journal(alloc)?;
+    let path = path_of(alloc, "a")?;
+    keep_at(alloc, &mut folder, 2, &path)?;
+    assert!(rt; found(alloc, &mut folder, 1)? == (false, None));
+    let mark = mark_path(alloc, EntryNumber(2))?;
+    let kinds = [
+        ("ok\n", true),
+        ("", false),
+        ("/", false),
+        ("ok", false),
+        ("ok\n\n", false),
+        ("OK\n", false),
+    ];
+    for (kind, want) in kinds {
+        put(&mut folder, &mark, node_of(alloc, kind)?.as_ref())?;
+        let (counted, kept) = found(alloc, &mut folder, 2)?;
+        assert_eq!(rt; counted, want, "{kind:?}");
+        assert!(rt; kept.as_ref() == Some(&path), "{kind:?}");
+    }
+    Ok(())
+}
+
+#[test]
+fn what_cannot_be_put_back_is_not_read(rt: HostRuntime) -> Result<(), Fail> {
+    let alloc = rt.alloc();
+    let mut folder = journal(alloc)?;
+    let place = entry_path(alloc, EntryNumber(1))?;
+    let kinds = [
+        ("p2entry 1\npath b\ndir\n", true),
+        ("p2entry 1\npath %-\ndir\n", true),
+        ("p2entry 1\npath .p2\ndir\n", false),
+        ("p2entry 1\n", false),
+        ("/", false),
+        ("", false),
+    ];
+    for (kind, want) in kinds {
+        put(&mut folder, &place, node_of(alloc, kind)?.as_ref())?;
+        let (_, kept) = found(alloc, &mut folder, 1)?;
+        assert_eq!(rt; kept.is_some(), want, "{kind:?}");
+    }
+    folder.inner.fuse(0);
+    assert!(rt; counts(alloc, &mut folder, EntryNumber(1)) == Err(FolderError::Failed));
+    assert!(rt; read_kept(alloc, &mut folder, EntryNumber(1)) == Err(FolderError::Failed));
     Ok(())
 }

@@ -1,15 +1,11 @@
-use Rattle.std.proofs.Common.{◌⊎◌, inl, inr, ap}
-use Rattle.folder_core.specs.Folder.{Map, Told}
-use Rattle.folder_core.specs.Crash.{IsImage, AllImages}
-use Rattle.folder_core.specs.Step.{OnTold, Step}
+use Rattle.std.proofs.Common.{◌⊎◌}
+use Rattle.folder_core.specs.Crash.{IsImage}
 use Rattle.folder_core.proofs.Moments.{holds_now}
-use Rattle.folder_core.specs.declared.node.Touch.{Touch}
-use Rattle.backup_store.specs.Entry.{IsEntry}
-use Rattle.backup_store.specs.Keeping.{HasNoMark, HasRoom, LeavesEntry, IsBegun, IsUnmarked}
-use Rattle.backup_store.specs.Places.{entry_path, mark_path}
-use Rattle.backup_store.specs.Settling.{IsStill, IsTouchedImage, IsSettled, IsUnsettled, entry_touch}
-use Rattle.backup_store.proofs.KeepingLemmas.{IsClear, clear_mark, begun_still, begun, IsEither, IsReady, leaves_entered, no_mark_entered, still_leaves, ready, images_still}
-use Rattle.backup_store.proofs.Moments.{on_two, on_told, leaves_first, leaves_next, images_then, either_way, step_either, err_map, each_image}
+use Rattle.backup_store.specs.Keeping.{HasNoMark, LeavesEntry, IsBegun}
+use Rattle.backup_store.specs.Looking.{IsStill}
+use Rattle.backup_store.specs.Settling.{IsTouchedImage, IsSettled, IsUnsettled}
+use Rattle.backup_store.proofs.KeepingLemmas.{begun_still, begun, IsEither, IsReady, leaves_entered, no_mark_entered, still_leaves, ready, images_still}
+use Rattle.backup_store.proofs.Moments.{on_two, on_told, leaves_next, images_then, either_way, step_either, err_map}
 use Rattle.backup_store.proofs.SettlingLemmas.{on_err}
 use Rattle.backup_store.proofs.keeping.enter.Goals as goal
 

@@ -1,13 +1,12 @@
-use Rattle.std.proofs.Common.{◌⊎◌, inl, inr, ap}
-use Rattle.folder_core.specs.Folder.{Map, Told, IsFormed, CanSet}
-use Rattle.folder_core.specs.Crash.{IsImage, AllImages}
-use Rattle.folder_core.specs.Step.{OnTold, Step}
+use Rattle.std.proofs.Common.{◌⊎◌}
+use Rattle.folder_core.specs.Folder.{IsFormed, CanSet}
+use Rattle.folder_core.specs.Crash.{IsImage}
 use Rattle.folder_core.proofs.Moments.{holds_now, formed_now}
 use Rattle.backup_store.specs.Keeping.{HasNoMark, HasRoom, SameButEntry, LeavesEntry, HasCome, IsKept, IsCounted}
 use Rattle.backup_store.specs.Places.{mark_path}
-use Rattle.backup_store.specs.Settling.{IsStill, IsTouchedImage, IsSettled, IsUnsettled, IsEntered, mark_touch}
+use Rattle.backup_store.specs.Settling.{IsTouchedImage, IsSettled, IsUnsettled, IsEntered, mark_touch}
 use Rattle.backup_store.proofs.KeepingLemmas.{IsEither, can_mark, marked_elsewhere, leaves_marked, come_marked, kept_marked, counted_marked, images_still}
-use Rattle.backup_store.proofs.Moments.{on_two, on_both, on_told, on_told_new, on_new, on_both_told, leaves_next, images_told, either_way, step_either, ok_map}
+use Rattle.backup_store.proofs.Moments.{on_two, on_told, on_told_new, on_new, on_both_told, leaves_next, images_told, either_way, step_either, ok_map}
 use Rattle.backup_store.proofs.keeping.keep.Goals as goal
 
 pub mark-requires : goal.mark-requires

@@ -1,4 +1,4 @@
-use Rattle.std.proofs.Common.{List, ℕ, [], sym, ◌∙◌}
+use Rattle.std.proofs.Common.{[], sym, ◌∙◌}
 use Rattle.backup_store.proofs.Fronts.{same_lines, some_behind}
 use Rattle.backup_store.proofs.lines.only_line.Goals as goal
 

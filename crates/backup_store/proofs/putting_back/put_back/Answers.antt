@@ -1,4 +1,4 @@
-use Rattle.folder_core.specs.Folder.{Map, Told, SameBut}
+use Rattle.folder_core.specs.Folder.{SameBut}
 use Rattle.folder_core.specs.Crash.{Touches}
 use Rattle.backup_store.specs.PuttingBack.{SameButRestored, TouchesRestored}
 use Rattle.backup_store.proofs.Moments.{on_two}

@@ -1,7 +1,7 @@
-use Rattle.std.proofs.Common.{◌≤◌, not, length, get_or, codes, sym, ◌∙◌, ap, subst, eqb}
+use Rattle.std.proofs.Common.{◌≤◌, not, length, get_or, codes, ◌∙◌, ap, subst, eqb}
 use Rattle.std.specs.Cmp.Lexicographic.{pointwise}
 use Rattle.backup_store.proofs.PuttingLemmas.{outside_tested}
-use Rattle.backup_store.proofs.putting_back.is_outside.Goals as goal
+use Rattle.backup_store.proofs.looking.is_outside.Goals as goal
 
 pub returns-in-len1-up : goal.returns-in-len1-up
 returns-in-len1-up c =

@@ -1,5 +1,5 @@
 use Rattle.backup_store.proofs.PuttingLemmas.{entry_at}
-use Rattle.backup_store.proofs.putting_back.read_kept.Goals as goal
+use Rattle.backup_store.proofs.looking.read_kept.Goals as goal
 
 pub returns-clause-found : goal.returns-clause-found
 returns-clause-found g c =

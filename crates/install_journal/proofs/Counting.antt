@@ -130,7 +130,7 @@ same_entry : (a b : Entry) → a.path ≡ b.path → a.before ≡ b.before → a
 same_entry a b path before = λ i. record { path = path i; before = before i }
 
 -- a map has one list of entries that count
-counted_one : (m : Map) (a b : List Entry) → AreCounted m a → AreCounted m b → a ≡ b
+pub counted_one : (m : Map) (a b : List Entry) → AreCounted m a → AreCounted m b → a ≡ b
 counted_one m a b counted others =
     let below = no_longer m a b counted others in
     let above = no_longer m b a others counted in

@@ -5,17 +5,20 @@ use Rattle.std.proofs.lemmas.Bool.{false≢true}
 use Rattle.std.proofs.lemmas.List.{get_or_default}
 use Rattle.folder_core.specs.Folder.{Map, Told, IsFormed, IsKid}
 use Rattle.folder_core.specs.Crash.{IsImage}
-use Rattle.folder_core.specs.Name.{AreThose}
+use Rattle.folder_core.specs.Name.{IsBefore, AreRising, AreThose}
 use Rattle.folder_core.specs.Node.{entries_path}
+use Rattle.folder_core.specs.PathOrder.{IsPathBefore}
 use Rattle.folder_core.specs.Step.{OnTold, Step}
 use Rattle.folder_core.specs.declared.node.Node.{Node}
 use Rattle.folder_core.specs.declared.node.Node.TheVariants.{Dir}
+use Rattle.install_journal.specs.Firsts.{IsFirst, Finds, IsEarlier}
 use Rattle.install_journal.specs.Looks.{Looks, OnlyLooks}
-use Rattle.install_journal.specs.Preparing.{IsChild, IsStrayChild, IsBelowEntry, Finds, IsDamage, IsOneOf, journal_path}
+use Rattle.install_journal.specs.Preparing.{IsChild, IsChildOf, IsStrayChild, IsBelowEntry, IsDamage, journal_path}
 use Rattle.backup_store.specs.Places.{gate_path}
 use Rattle.install_journal.proofs.Closings.{nothing_below_other}
 use Rattle.install_journal.proofs.Firsts.{is_some_dir}
 use Rattle.install_journal.proofs.Opens.{image_back}
+use Rattle.install_journal.proofs.Orders.{before_below, finds_earlier, lower_place, not_above, not_before_itself}
 use Rattle.install_journal.proofs.Runs.{on_each, on_both, step_then}
 
 pub found_none : {X : Type 0} (found : Option X) (tested : Bool) → tested ≡ is_some found → tested ≡ false → found ≡ None
@@ -95,31 +98,77 @@ stray_none told journal names place is image those own all =
     ⊎_elim (λ undo. stray.1.1.1.0 (sym same ∙ undo)) (λ e. stray.1.1.1.1 (sym same ∙ e)) (own at.0 (omega (arith, at.1))))
     (on_both told (λ s. IsImage s s.now) (λ s. AreThose (IsKid s.now journal) names) image those)
 
-abbrev Good : (List (List ℕ) → Type 0) → Option (List (List ℕ)) → Type 0
-Good P None = Unit {0}
-Good P (Some path) = P path
+some_none : (stands : Option Node) → stands ≡ None → IsSome stands → ⊥
+some_none stands none some = false≢true (ap is_some (sym none) ∙ some)
 
-one_good : (P : List (List ℕ) → Type 0) (a b r : Option (List (List ℕ))) → IsOneOf a b r → Good P a → Good P b → Good P r
-one_good P None b r one first second = subst (Good P) (sym one) second
-one_good P (Some p) None r one first second = subst (Good P) (sym one) first
-one_good P (Some p) (Some q) r one first second = ⊎_elim (λ is. subst (Good P) (sym is) first) (λ is. subst (Good P) (sym is) second) one
+-- the child with the first name that isn't the journal's own is the first stray one
+pub stray_some : (told : Option Told) (journal found : List (List ℕ)) (names : List (List ℕ)) (place : ℕ) → journal ≡ journal_path → OnTold told (λ s. IsImage s s.now) → AreRising names → OnTold told (λ s. AreThose (IsKid s.now journal) names)
+    → ((i : ℕ) → i < place → (get_or names i [] ≡ codes "undo") ⊎ (get_or names i [] ≡ codes "e")) → place < length names → ¬ ((get_or names place [] ≡ codes "undo") ⊎ (get_or names place [] ≡ codes "e")) → found ≡ journal ++ get_or names place [] ∷ []
+    → OnTold told (λ s. Finds (IsStrayChild s.now) (Some found))
+stray_some told journal found names place is image rising those own below other same =
+    on_each told (λ s. IsImage s s.now × AreThose (IsKid s.now journal) names) (λ s. Finds (IsStrayChild s.now) (Some found))
+    (λ s here.
+    let name = get_or names place [] in
+    let at_name : found ≡ journal_path ++ name ∷ [] = same ∙ ap (λ (p : List (List ℕ)). p ++ name ∷ []) is in
+    let kid = (here.1 name).0 (place, below, get_or_default names place name [] below) in
+    record {
+      has = (subst (λ (p : List (List ℕ)). IsSome (s.now p)) (sym same) kid.stands, (name, (at_name, ((λ undo. other (inl undo)), (λ e. other (inr e))))));
+      first = λ path stray before.
+          let next = stray.1.0 in
+          let some : IsSome (s.now (journal ++ next ∷ [])) = subst (λ (p : List (List ℕ)). IsSome (s.now p)) (stray.1.1.0 ∙ ap (λ (p : List (List ℕ)). p ++ next ∷ []) (sym is)) stray.0 in
+          let at = (here.1 next).1 (record { directory = is_some_dir s.now journal next here.0.formed some; stands = some }) in
+          let as_next : get_or names at.0 [] ≡ next = get_or_default names at.0 [] next at.1 ∙ at.2 in
+          let earlier : IsPathBefore (journal_path ++ next ∷ []) (journal_path ++ name ∷ []) =
+          subst (λ (p : List (List ℕ)). IsPathBefore p (journal_path ++ name ∷ [])) stray.1.1.0 (subst (λ (p : List (List ℕ)). IsPathBefore path p) at_name before) in
+          ⊎_elim
+          (λ less. ⊎_elim (λ undo. stray.1.1.1.0 (sym as_next ∙ undo)) (λ e. stray.1.1.1.1 (sym as_next ∙ e))
+          (own at.0 (lower_place names rising place at.0 at.1 (subst (λ (n : List ℕ). IsBefore n name) (sym as_next) less))))
+          (λ tied. not_before_itself [] tied.1)
+          (before_below journal_path next name [] [] earlier);
+    })
+    (on_both told (λ s. IsImage s s.now) (λ s. AreThose (IsKid s.now journal) names) image those)
 
-one_none : (a b r : Option (List (List ℕ))) → IsOneOf a b r → r ≡ None → (a ≡ None) × (b ≡ None)
-one_none None b r one none = (refl, sym one ∙ none)
-one_none (Some p) None r one none = absurd (let e = sym one ∙ none in let f : ⊥ = cc in f)
-one_none (Some p) (Some q) r one none = absurd (⊎_elim (λ is. let e = sym is ∙ none in let f : ⊥ = cc in f) (λ is. let e = sym is ∙ none in let f : ⊥ = cc in f) one)
+-- the first child of the first entry that has one is the first path below an entry
+first_below : (m : Map) (names : List (List ℕ)) (place : ℕ) (found : List (List ℕ)) → IsFormed m → AreRising names → AreThose (IsKid m entries_path) names
+    → ((i : ℕ) → i < place → IsChild m (entries_path ++ get_or names i [] ∷ []) None) → place < length names → IsFirst (IsChildOf m (entries_path ++ get_or names place [] ∷ [])) found
+    → IsFirst (IsBelowEntry m) found
+first_below m names place found formed rising those none below child =
+    let name = get_or names place [] in
+    let at_found : found ≡ entries_path ++ name ∷ child.has.1.0 ∷ [] = child.has.1.1 in
+    record {
+      has = (child.has.0, (name, (child.has.1.0, at_found)));
+      first = λ path under before.
+          let other = under.1.0 in
+          let next = under.1.1.0 in
+          let deep : IsSome (m ((entries_path ++ other ∷ []) ++ next ∷ [])) = subst (λ (p : List (List ℕ)). IsSome (m p)) under.1.1.1 under.0 in
+          let dir : m (entries_path ++ other ∷ []) ≡ Some Dir = is_some_dir m (entries_path ++ other ∷ []) next formed deep in
+          let stands : IsSome (m (entries_path ++ other ∷ [])) = ap is_some dir in
+          let at = (those other).1 (record { directory = is_some_dir m entries_path other formed stands; stands = stands }) in
+          let as_other : get_or names at.0 [] ≡ other = get_or_default names at.0 [] other at.1 ∙ at.2 in
+          let earlier : IsPathBefore (entries_path ++ other ∷ next ∷ []) (entries_path ++ name ∷ child.has.1.0 ∷ []) =
+          subst (λ (p : List (List ℕ)). IsPathBefore p (entries_path ++ name ∷ child.has.1.0 ∷ [])) under.1.1.1 (subst (λ (p : List (List ℕ)). IsPathBefore path p) at_found before) in
+          ⊎_elim
+          (λ less.
+          let lower = lower_place names rising place at.0 at.1 (subst (λ (n : List ℕ). IsBefore n name) (sym as_other) less) in
+          some_none (m (entries_path ++ other ∷ next ∷ [])) (subst (λ (n : List ℕ). m (entries_path ++ n ∷ next ∷ []) ≡ None) as_other (none at.0 lower next)) deep)
+          (λ tied. child.first path (under.0, (next, under.1.1.1 ∙ ap (λ (n : List ℕ). entries_path ++ n ∷ next ∷ []) tied.0)) before)
+          (before_below entries_path other name (next ∷ []) (child.has.1.0 ∷ []) earlier);
+    }
 
-stray_good : (m : Map) (a : Option (List (List ℕ))) → Finds (IsStrayChild m) a → Good (IsDamage m) a
-stray_good m None finds = tt
-stray_good m (Some path) finds = record { stands = finds.0; place = inl finds.1 }
-
-child_good : (m : Map) (b : Option (List (List ℕ))) → IsChild m gate_path b → Good (IsDamage m) b
-child_good m None finds = tt
-child_good m (Some path) finds = record { stands = finds.0; place = inr (inl (finds.1.0, [], finds.1.1)) }
-
-below_good : (m : Map) (b : Option (List (List ℕ))) → Finds (IsBelowEntry m) b → Good (IsDamage m) b
-below_good m None finds = tt
-below_good m (Some path) finds = record { stands = finds.0; place = inr (inr (finds.1.0, (finds.1.1.0, [], finds.1.1.1))) }
+below_some : (told : Option Told) (entries found : List (List ℕ)) (names : List (List ℕ)) (place : ℕ) → entries ≡ entries_path → OnTold told (λ s. IsImage s s.now) → AreRising names → OnTold told (λ s. AreThose (IsKid s.now entries) names)
+    → ((i : ℕ) → i < place → OnTold told (λ s. IsChild s.now (entries ++ get_or names i [] ∷ []) None)) → place < length names → OnTold told (λ s. IsChild s.now (entries ++ get_or names place [] ∷ []) (Some found))
+    → OnTold told (λ s. Finds (IsBelowEntry s.now) (Some found))
+below_some told entries found names place is image rising those none below child =
+    on_each told (λ s. (IsImage s s.now × AreThose (IsKid s.now entries) names) × (((i : ℕ) → i < place → IsChild s.now (entries ++ get_or names i [] ∷ []) None) × IsChild s.now (entries ++ get_or names place [] ∷ []) (Some found))) (λ s. Finds (IsBelowEntry s.now) (Some found))
+    (λ s here.
+    first_below s.now names place found here.0.0.formed rising
+    (subst (λ (p : List (List ℕ)). AreThose (IsKid s.now p) names) is here.0.1)
+    (subst (λ (p : List (List ℕ)). (i : ℕ) → i < place → IsChild s.now (p ++ get_or names i [] ∷ []) None) is here.1.0) below
+    (subst (λ (p : List (List ℕ)). IsChild s.now (p ++ get_or names place [] ∷ []) (Some found)) is here.1.1))
+    (on_both told (λ s. IsImage s s.now × AreThose (IsKid s.now entries) names) (λ s. ((i : ℕ) → i < place → IsChild s.now (entries ++ get_or names i [] ∷ []) None) × IsChild s.now (entries ++ get_or names place [] ∷ []) (Some found))
+    (on_both told (λ s. IsImage s s.now) (λ s. AreThose (IsKid s.now entries) names) image those)
+    (on_both told (λ s. (i : ℕ) → i < place → IsChild s.now (entries ++ get_or names i [] ∷ []) None) (λ s. IsChild s.now (entries ++ get_or names place [] ∷ []) (Some found))
+    (each_at told (λ i s. IsChild s.now (entries ++ get_or names i [] ∷ []) None) place none) child))
 
 not_dir_none : (stands : Option Node) → stands ≡ None → ¬ (stands ≡ Some Dir)
 not_dir_none stands none is = let f : ⊥ = cc in f
@@ -130,9 +179,6 @@ no_child_below m path formed none name [] = none name
 no_child_below m path formed none name (next ∷ rest) =
     ap m (sym (append_assoc path (name ∷ []) (next ∷ rest))) ∙ nothing_below_other m rest (path ++ name ∷ []) next formed (not_dir_none (m (path ++ name ∷ [])) (none name))
 
-some_none : (stands : Option Node) → stands ≡ None → IsSome stands → ⊥
-some_none stands none some = false≢true (ap is_some (sym none) ∙ some)
-
 flat_none : (m : Map) → Finds (IsBelowEntry m) None → (name next : List ℕ) → m (entries_path ++ name ∷ next ∷ []) ≡ None
 flat_none m finds name next = go (m (entries_path ++ name ∷ next ∷ [])) refl
   where
@@ -140,25 +186,69 @@ flat_none m finds name next = go (m (entries_path ++ name ∷ next ∷ [])) refl
     go None at = at
     go (Some x) at = absurd (finds (entries_path ++ name ∷ next ∷ []) (ap is_some at, (name, (next, refl))))
 
-no_damage : (m : Map) → IsFormed m → Finds (IsStrayChild m) None → IsChild m gate_path None → Finds (IsBelowEntry m) None → Finds (IsDamage m) None
-no_damage m formed stray child below path damage = ⊎_elim
-    (λ at. stray path (damage.stands, at))
+pub below_told : (told : Option Told) (entries : List (List ℕ)) (found : Option (List (List ℕ))) (names : List (List ℕ)) (place : ℕ) → IsSome found → entries ≡ entries_path → OnTold told (λ s. IsImage s s.now) → AreRising names → OnTold told (λ s. AreThose (IsKid s.now entries) names)
+    → ((i : ℕ) → i < place → OnTold told (λ s. IsChild s.now (entries ++ get_or names i [] ∷ []) None)) → place < length names → OnTold told (λ s. IsChild s.now (entries ++ get_or names place [] ∷ []) found)
+    → OnTold told (λ s. Finds (IsBelowEntry s.now) found)
+below_told told entries None names place some is image rising those none below child = absurd (false≢true some)
+below_told told entries (Some found) names place some is image rising those none below child = below_some told entries found names place is image rising those none below child
+
+-- where something stands below a path, a child of the path stands
+child_stands : (m : Map) (path : List (List ℕ)) (name : List ℕ) (rest : List (List ℕ)) → IsFormed m → IsSome (m (path ++ name ∷ rest)) → IsSome (m (path ++ name ∷ []))
+child_stands m path name [] formed some = some
+child_stands m path name (next ∷ rest) formed some = go (m (path ++ name ∷ [])) refl
+  where
+    go : (stands : Option Node) → m (path ++ name ∷ []) ≡ stands → IsSome (m (path ++ name ∷ []))
+    go None at = absurd (some_none (m (path ++ name ∷ next ∷ rest))
+        (ap m (sym (append_assoc path (name ∷ []) (next ∷ rest))) ∙ nothing_below_other m rest (path ++ name ∷ []) next formed (not_dir_none (m (path ++ name ∷ [])) at)) some)
+    go (Some x) at = ap is_some at
+
+abbrev IsBelowOne : Map → List (List ℕ) → Type 0
+IsBelowOne m path = IsChildOf m gate_path path ⊎ IsBelowEntry m path
+
+-- each damage has a stray child, a child of the gate or one of an entry at it or before it
+damage_covers : (m : Map) → IsFormed m → (path : List (List ℕ)) → IsDamage m path → (at : List (List ℕ)) × ((IsStrayChild m at ⊎ IsBelowOne m at) × (¬ (IsPathBefore path at)))
+damage_covers m formed path damage = ⊎_elim
+    (λ stray. (path, (inl (damage.stands, stray), not_before_itself path)))
     (λ deeper. ⊎_elim
-    (λ at. some_none (m path) (ap m at.2 ∙ no_child_below m gate_path formed child at.0 at.1) damage.stands)
-    (λ at. some_none (m path) (ap m at.1.2 ∙ no_child_below m (entries_path ++ at.0 ∷ []) formed (λ next. flat_none m below at.0 next) at.1.0 at.1.1) damage.stands)
+    (λ below.
+    let some : IsSome (m (gate_path ++ below.0 ∷ below.1)) = subst (λ (p : List (List ℕ)). IsSome (m p)) below.2 damage.stands in (
+      gate_path ++ below.0 ∷ [],
+      (
+        inr (inl (child_stands m gate_path below.0 below.1 formed some, (below.0, refl))),
+        λ before. not_above (gate_path ++ below.0 ∷ []) below.1 (subst (λ (p : List (List ℕ)). IsPathBefore p (gate_path ++ below.0 ∷ [])) below.2 before),
+      ),
+    ))
+    (λ entry.
+    let below = entry.1 in
+    let over : List (List ℕ) = entries_path ++ entry.0 ∷ [] in
+    let some : IsSome (m (over ++ below.0 ∷ below.1)) = subst (λ (p : List (List ℕ)). IsSome (m p)) below.2 damage.stands in (
+      over ++ below.0 ∷ [],
+      (
+        inr (inr (child_stands m over below.0 below.1 formed some, (entry.0, (below.0, refl)))),
+        λ before. not_above (over ++ below.0 ∷ []) below.1 (subst (λ (p : List (List ℕ)). IsPathBefore p (over ++ below.0 ∷ [])) below.2 before),
+      ),
+    ))
     deeper)
     damage.place
 
-damage_of : (m : Map) (a b d inner r : Option (List (List ℕ))) → IsFormed m → Finds (IsStrayChild m) a → IsChild m gate_path b → Finds (IsBelowEntry m) d → IsOneOf a inner r → IsOneOf b d inner → Finds (IsDamage m) r
-damage_of m a b d inner None formed stray child below one two =
-    let first = one_none a inner None one refl in
-    let second = one_none b d inner two first.1 in
-    no_damage m formed (subst (Finds (IsStrayChild m)) first.0 stray) (subst (IsChild m gate_path) second.0 child) (subst (Finds (IsBelowEntry m)) second.1 below)
-damage_of m a b d inner (Some path) formed stray child below one two =
-    one_good (IsDamage m) a inner (Some path) one (stray_good m a stray) (one_good (IsDamage m) b d inner two (child_good m b child) (below_good m d below))
+below_damage : (m : Map) (path : List (List ℕ)) → IsBelowOne m path → IsDamage m path
+below_damage m path below = ⊎_elim
+    (λ child. record { stands = child.0; place = inr (inl (child.1.0, [], child.1.1)) })
+    (λ entry. record { stands = entry.0; place = inr (inr (entry.1.0, (entry.1.1.0, [], entry.1.1.1))) })
+    below
+
+child_finds : (m : Map) (path : List (List ℕ)) (found : Option (List (List ℕ))) → IsChild m path found → Finds (IsChildOf m path) found
+child_finds m path None none = λ child is. some_none (m child) (ap m is.1.1 ∙ none is.1.0) is.0
+child_finds m path (Some child) first = first
+
+damage_of : (m : Map) (a b d inner r : Option (List (List ℕ))) → IsFormed m → Finds (IsStrayChild m) a → IsChild m gate_path b → Finds (IsBelowEntry m) d → IsEarlier a inner r → IsEarlier b d inner → Finds (IsDamage m) r
+damage_of m a b d inner r formed stray child below one two =
+    let deeper : Finds (IsBelowOne m) inner = finds_earlier (IsChildOf m gate_path) (IsBelowEntry m) (IsBelowOne m)
+    (λ path is. inl is) (λ path is. inr is) (λ path is. (path, (is, not_before_itself path))) b d inner (child_finds m gate_path b child) below two in
+    finds_earlier (IsStrayChild m) (IsBelowOne m) (IsDamage m) (λ path is. record { stands = is.0; place = inl is.1 }) (below_damage m) (damage_covers m formed) a inner r stray deeper one
 
 pub damage_told : (told : Option Told) (a b d inner r : Option (List (List ℕ))) → OnTold told (λ s. IsImage s s.now) → OnTold told (λ s. Finds (IsStrayChild s.now) a) → OnTold told (λ s. IsChild s.now gate_path b) → OnTold told (λ s. Finds (IsBelowEntry s.now) d)
-    → IsOneOf a inner r → IsOneOf b d inner → OnTold told (λ s. Finds (IsDamage s.now) r)
+    → IsEarlier a inner r → IsEarlier b d inner → OnTold told (λ s. Finds (IsDamage s.now) r)
 damage_told None a b d inner r image stray child below one two = tt
 damage_told (Some s) a b d inner r image stray child below one two = damage_of s.now a b d inner r image.formed stray child below one two
 

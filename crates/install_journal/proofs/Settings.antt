@@ -8,7 +8,8 @@ use Rattle.folder_core.specs.Step.{OnTold, Step}
 use Rattle.folder_core.specs.declared.node.Node.TheVariants.{Dir}
 use Rattle.backup_store.specs.Held.{IsFileOf, gate_text}
 use Rattle.backup_store.specs.Places.{gate_path}
-use Rattle.install_journal.specs.Preparing.{IsLeft, IsPrepared, Moves, HasFlatEntries, HasNoEntries, IsDamage, IsFresh, Finds, SparesGate, journal_path}
+use Rattle.install_journal.specs.Firsts.{Finds}
+use Rattle.install_journal.specs.Preparing.{IsLeft, IsPrepared, Moves, HasFlatEntries, HasNoEntries, IsDamage, IsFresh, SparesGate, journal_path}
 use Rattle.install_journal.proofs.Damages.{gate_free, entries_flat}
 use Rattle.install_journal.proofs.Fixing.{fixed_synced, fixed_same}
 use Rattle.install_journal.proofs.Runs.{on_each, on_both, step_on, step_both, step_each, step_from, step_then}

@@ -28,7 +28,7 @@ can_same a b path outside same can = record {
   nothing_below = λ name rest. same _ (outside_below path _ can.not_root outside (name, rest, refl)) ∙ can.nothing_below name rest;
 }
 
-set_same : (a b : Map) (path : List (List ℕ)) (stands : Option Node) → SameOutside b a → SameOutside (set_at b path stands) (set_at a path stands)
+pub set_same : (a b : Map) (path : List (List ℕ)) (stands : Option Node) → SameOutside b a → SameOutside (set_at b path stands) (set_at a path stands)
 set_same a b path stands same place outside = elim (same_path place path) [
   | inl here ↦ changed_here b path stands place here ∙ sym (changed_here a path stands place here)
   | inr apart ↦ changed_other b path stands place apart ∙ same place outside ∙ sym (changed_other a path stands place apart)

@@ -11,6 +11,7 @@ use Rattle.folder_core.specs.declared.node.After.TheVariants.{Unchanged, Recover
 use Rattle.backup_store.specs.Held.{IsOpen as OpensGate}
 use Rattle.backup_store.specs.Places.{IsOutside, gate_path}
 use Rattle.install_journal.specs.Closing.{IsSynced}
+use Rattle.install_journal.specs.Firsts.{IsFirst}
 use Rattle.install_journal.specs.Fixed.{IsFixed}
 use Rattle.install_journal.specs.Restored.{IsRestored}
 use Rattle.install_journal.specs.declared.change.Change.{Change}
@@ -44,12 +45,6 @@ pub record HasNoEntries (m : Map) : Type 0 where
   pub directory : m entries_path ≡ Some Dir
   pub none : (name : List ℕ) → m (entries_path ++ name ∷ []) ≡ None
 
--- One of those that were found, if any was.
-abbrev pub IsOneOf : Option (List (List ℕ)) → Option (List (List ℕ)) → Option (List (List ℕ)) → Type 0
-IsOneOf None second found = found ≡ second
-IsOneOf (Some first) None found = found ≡ Some first
-IsOneOf (Some first) (Some second) found = (found ≡ Some first) ⊎ (found ≡ Some second)
-
 -- The map restores to this installation, and its gate is closed.
 abbrev pub IsClosedOld : Map → Map → Type 0
 IsClosedOld old m = IsRestored m old × (¬ (OpensGate m))
@@ -71,15 +66,13 @@ IsStrayChild m path = IsSome (m path) × ((name : List ℕ) × ((path ≡ journa
 abbrev pub IsBelowEntry : Map → List (List ℕ) → Type 0
 IsBelowEntry m path = IsSome (m path) × ((name : List ℕ) × ((next : List ℕ) × (path ≡ entries_path ++ name ∷ next ∷ [])))
 
--- A path that has P is found, or none has it.
-abbrev pub Finds : (List (List ℕ) → Type 0) → Option (List (List ℕ)) → Type 0
-Finds P None = (path : List (List ℕ)) → ¬ (P path)
-Finds P (Some path) = P path
+abbrev pub IsChildOf : Map → List (List ℕ) → List (List ℕ) → Type 0
+IsChildOf m path child = IsSome (m child) × ((name : List ℕ) × (child ≡ path ++ name ∷ []))
 
--- The name of a directory's child, or None where it has none.
+-- The first child of a directory, or None where it has none.
 abbrev pub IsChild : Map → List (List ℕ) → Option (List (List ℕ)) → Type 0
 IsChild m path None = (name : List ℕ) → m (path ++ name ∷ []) ≡ None
-IsChild m path (Some child) = IsSome (m child) × ((name : List ℕ) × (child ≡ path ++ name ∷ []))
+IsChild m path (Some child) = IsFirst (IsChildOf m path) child
 
 -- a change that has just begun
 abbrev pub begun : Change

@@ -7,9 +7,10 @@ ghost use Rattle.folder_core.specs.declared.node.Node.TheVariants as node;
 ghost use Rattle.backup_store.specs.Held.{gate_text, IsOpen as OpensGate};
 ghost use Rattle.backup_store.specs.Places.{gate_path};
 ghost use Rattle.install_journal.specs.Closing.{MayBeOpen};
+ghost use Rattle.install_journal.specs.Firsts.{Finds, IsFirst};
 ghost use Rattle.install_journal.specs.Open.{IsOpen};
 ghost use Rattle.install_journal.specs.Overlay.{SameOutside};
-ghost use Rattle.install_journal.specs.Preparing.{IsDamage, IsPrepared, IsShut, Finds, OnUnchanged, OnRecover, NeverEither, begun, journal_path};
+ghost use Rattle.install_journal.specs.Preparing.{IsDamage, IsPrepared, IsShut, OnUnchanged, OnRecover, NeverEither, begun, journal_path};
 ghost use Rattle.install_journal.specs.Restored.{IsRestored};
 ghost use Rattle.install_journal.specs.Undoing.{IsFailure, OnDamage};
 
@@ -32,7 +33,7 @@ impl Change {
     /// finished.
     ///
     /// `Damaged` comes exactly where `.p2` has a child other than `undo` and `e`, or something lies below `.p2/undo` or below
-    /// a child of `.p2/e`. It names such a path. Nothing is changed then.
+    /// a child of `.p2/e`. It names the first such path in the order of paths. Nothing is changed then.
     pub fn begin<F: Folder>(alloc: Global, folder: &mut F) -> Result<Change, JournalFault>
         requires { OnTold (F.told folder.old) (λ s. ¬ (OpensGate s.now)) }
         ensures begun { IfOk result (λ change. change ≡ begun) }
@@ -44,7 +45,7 @@ impl Change {
         ensures may_be_open { IfErr result (OnRecover (OnTold (F.told folder.new) MayBeOpen)) }
         ensures recover { IfErr result (OnRecover (OnTold (F.told folder.old) (λ s. AllImages (λ m. IsRestored m s.now) (F.told folder.new)))) }
         ensures undamaged { OnOk result (OnTold (F.told folder.old) (λ s. Finds (IsDamage s.now) None)) }
-        ensures damaged { IfErr result (OnDamage (λ at. OnTold (F.told folder.old) (λ s. IsDamage s.now at))) }
+        ensures damaged { IfErr result (OnDamage (λ at. OnTold (F.told folder.old) (λ s. IsFirst (IsDamage s.now) at))) }
         ensures unchanged { IfErr result (OnDamage (λ at. Step (F.told folder.old) (F.told folder.new) (λ s t. t.now ≡ s.now))) }
         ensures never_either { IfErr result NeverEither }
         ensures cause { HasCause (F.faults folder.old) (F.faults folder.new) (IsErrAnd result IsFailure) }
@@ -92,7 +93,7 @@ fn begin_synced<F: Folder>(
     ensures shut { IfErr result (OnUnchanged (OnTold (F.told folder.new) IsShut)) }
     ensures may_be_open { IfErr result (OnRecover (OnTold (F.told folder.new) MayBeOpen)) }
     ensures undamaged { OnOk result (OnTold (F.told folder.old) (λ s. Finds (IsDamage s.now) None)) }
-    ensures damaged { IfErr result (OnDamage (λ at. OnTold (F.told folder.old) (λ s. IsDamage s.now at))) }
+    ensures damaged { IfErr result (OnDamage (λ at. OnTold (F.told folder.old) (λ s. IsFirst (IsDamage s.now) at))) }
     ensures unchanged { IfErr result (OnDamage (λ at. Step (F.told folder.old) (F.told folder.new) (λ s t. t.now ≡ s.now))) }
     ensures never_either { IfErr result NeverEither }
     ensures cause { HasCause (F.faults folder.old) (F.faults folder.new) (IsErrAnd result IsFailure) }

@@ -3,8 +3,9 @@ ghost use Rattle.folder_core.specs.Cause.{HasCause};
 ghost use Rattle.folder_core.specs.Node.{entries_path};
 ghost use Rattle.folder_core.specs.Step.{OnTold};
 ghost use Rattle.backup_store.specs.Places.{gate_path};
+ghost use Rattle.install_journal.specs.Firsts.{Finds, IsEarlier};
 ghost use Rattle.install_journal.specs.Looks.{OnlyLooks};
-ghost use Rattle.install_journal.specs.Preparing.{IsChild, IsBelowEntry, IsStrayChild, IsDamage, IsOneOf, Finds, journal_path};
+ghost use Rattle.install_journal.specs.Preparing.{IsChild, IsBelowEntry, IsStrayChild, IsDamage, journal_path};
 
 use crate::places::{Places, child};
 use folder_core::{Folder, FolderError, Name, Path};
@@ -78,7 +79,7 @@ fn is_own(name: &Name) -> bool
     text == "undo" || text == "e"
 }
 
-/// What stands where the journal puts nothing. None where there is no such thing.
+/// The first path at which something stands that the journal didn't put there. None where there is no such path.
 pub(crate) fn find_damage<F: Folder>(
     alloc: Global,
     folder: &mut F,
@@ -97,9 +98,9 @@ pub(crate) fn find_damage<F: Folder>(
     Ok(earlier(stray, earlier(below_gate, below)))
 }
 
-/// The earlier of two paths that were found.
-fn earlier(first: Option<Path>, second: Option<Path>) -> Option<Path>
-    ensures { IsOneOf first second result }
+/// The earlier of two paths, in the order of paths. Where one wasn't found it is the other.
+pub(crate) fn earlier(first: Option<Path>, second: Option<Path>) -> Option<Path>
+    ensures { IsEarlier first second result }
 {
     match (first, second) {
         (None, second) => second,

@@ -5,7 +5,8 @@ ghost use Rattle.folder_core.specs.Node.{entries_path};
 ghost use Rattle.folder_core.specs.Path.{parent};
 ghost use Rattle.folder_core.specs.Step.{OnTold, Step};
 ghost use Rattle.folder_core.specs.declared.node.Node.TheVariants as node;
-ghost use Rattle.install_journal.specs.Preparing.{IsLeft, IsPrepared, Moves, LeavesClosed, HasFlatEntries, HasNoEntries, IsDamage, IsFresh, Finds, SparesGate, journal_path};
+ghost use Rattle.install_journal.specs.Firsts.{Finds};
+ghost use Rattle.install_journal.specs.Preparing.{IsLeft, IsPrepared, Moves, LeavesClosed, HasFlatEntries, HasNoEntries, IsDamage, IsFresh, SparesGate, journal_path};
 
 use crate::places::{Places, child};
 use folder_core::{Folder, FolderError, Node, Path};
@@ -34,7 +35,7 @@ pub(crate) fn make_directory<F: Folder>(
     folder.set(path, Some(&Node::Dir))
 }
 
-fn is_directory(found: &Option<Node>) -> bool
+pub(crate) fn is_directory(found: &Option<Node>) -> bool
     ensures { IsTrue result ↔ (found.now ≡ Some node.Dir) }
 {
     matches!(found, Some(Node::Dir))

@@ -1,3 +1,10 @@
+mod answers;
+mod caller;
+mod damages;
+mod failing;
+mod recoveries;
+mod wholes;
+
 ghost use Rattle.std.specs.Prelude.{◌≢◌, [], IsTrue};
 ghost use Rattle.backup_store.specs.Held.{IsOpen as OpensGate};
 ghost use Rattle.backup_store.specs.Places.{IsOutside};
@@ -5,11 +12,19 @@ ghost use Rattle.folder_memory.specs.Memory.{told_by};
 ghost use Rattle.install_journal.specs.Open.{IsOpen, IsReady};
 
 use super::*;
-use folder_core::{Folder, FolderError, Node, Path};
+use folder_core::{Blob, Folder, FolderError, Node, Path, Touch};
 use folder_memory::MemoryFolder;
-use osgi_version::{NoMemory, Text};
+use osgi_version::{List, NoMemory, Text, Twin};
 use std::alloc::Global;
 use std::test::Fail;
+
+/// Which installation a crash or a recovery gives.
+#[derive(Clone, Copy, Debug, PartialEq, Eq)]
+enum Outcome {
+    Old,
+    New,
+    Either,
+}
 
 fn path_of(alloc: Global, text: &str) -> Result<Path, Fail> {
     Ok(Path::read(alloc, &Text::from_str(alloc, text)?)?.ok_or("no path")?)
@@ -24,8 +39,17 @@ fn is_outside(path: &Path) -> bool
     }
 }
 
-// Nothing for "", a directory for "/", and else a link.
-fn node_of(alloc: Global, kind: &str) -> Result<Option<Node>, NoMemory> {
+fn file_of(alloc: Global, bytes: &str) -> Result<Node, Fail> {
+    let bytes = Vec::from_slice(alloc, bytes.as_bytes())?;
+    let blob = Blob::new(List::from_vec(bytes)).ok_or("no blob")?;
+    Ok(Node::File { mode: 0o644, blob })
+}
+
+// Nothing for "", a directory for "/", a file of the bytes behind "#", and else a link.
+fn node_of(alloc: Global, kind: &str) -> Result<Option<Node>, Fail> {
+    if let Some(bytes) = kind.strip_prefix('#') {
+        return Ok(Some(file_of(alloc, bytes)?));
+    }
     match kind {
         "" => Ok(None),
         "/" => Ok(Some(Node::Dir)),
@@ -35,125 +59,93 @@ fn node_of(alloc: Global, kind: &str) -> Result<Option<Node>, NoMemory> {
     }
 }
 
+fn touch_of(alloc: Global, at: &str, kind: &str) -> Result<Touch, Fail> {
+    Ok(Touch {
+        path: path_of(alloc, at)?,
+        node: node_of(alloc, kind)?,
+    })
+}
+
 fn gate_of<F: Folder>(alloc: Global, folder: &mut F) -> Result<Gate, FolderError> {
     read_gate(alloc, folder)
 }
 
+// Puts such a node at a path. False where that can't be done.
+fn put_at(alloc: Global, folder: &mut MemoryFolder, at: &str, kind: &str) -> Result<bool, Fail> {
+    let touch = touch_of(alloc, at, kind)?;
+    let may = touch
+        .node
+        .as_ref()
+        .is_none_or(|node| node.may_stand_at(&touch.path));
+    if !may || !folder.can_set(&touch.path) {
+        return Ok(false);
+    }
+    folder.set(&touch.path, touch.node.as_ref())?;
+    Ok(true)
+}
+
+// Whether such a node stands there now.
+fn has_at(alloc: Global, folder: &MemoryFolder, at: &str, kind: &str) -> Result<bool, Fail> {
+    let touch = touch_of(alloc, at, kind)?;
+    Ok(folder.node(&touch.path) == touch.node.as_ref())
+}
+
+// Whether the gate of the folder is closed.
+fn is_shut(alloc: Global, folder: &mut MemoryFolder) -> bool
+    ensures { IsTrue result → ¬ (OpensGate (told_by folder.new).now) }
+{
+    matches!(read_gate(alloc, folder), Ok(Gate::IsClosed))
+}
+
 // Touches a path. False where that can't be done.
-fn touch_at(
-    alloc: Global,
-    folder: &mut MemoryFolder,
-    change: &mut Change,
-    path: &Path,
-    node: &Option<Node>,
-) -> bool
+fn touch_at(alloc: Global, folder: &mut MemoryFolder, change: &mut Change, touch: &Touch) -> bool
     requires ready { IsReady change.old }
     requires open { IsOpen change.old (told_by folder.old) }
     ensures ready { IsTrue result → IsReady change.new }
     ensures open { IsOpen change.new (told_by folder.new) }
 {
-    let may = node.as_ref().is_none_or(|node| node.may_stand_at(path));
-    if !may || !is_outside(path) || !folder.can_set(path) {
+    let node = touch.node.as_ref();
+    let may = node.is_none_or(|node| node.may_stand_at(&touch.path));
+    if !may || !is_outside(&touch.path) || !folder.can_set(&touch.path) {
         return false;
     }
-    change.touch(alloc, folder, path, node.as_ref()).is_ok()
+    change.touch(alloc, folder, &touch.path, node).is_ok()
 }
 
 // Ends a change as it began.
-fn give_up(alloc: Global, folder: &mut MemoryFolder, change: Change) -> bool
+fn give_up(alloc: Global, folder: &mut MemoryFolder, change: Change) -> Outcome
     requires { IsOpen change (told_by folder.old) }
 {
     let _ = change.abandon(alloc, folder);
-    false
+    Outcome::Old
 }
 
 // Makes what stands now the installation, or gives up.
-fn complete(alloc: Global, folder: &mut MemoryFolder, change: Change) -> bool
+fn complete(alloc: Global, folder: &mut MemoryFolder, change: Change) -> Outcome
     requires ready { IsReady change }
     requires open { IsOpen change (told_by folder.old) }
 {
     match change.finish(alloc, folder) {
-        Ok(_) => true,
+        Ok(_) => Outcome::New,
         Err(FinishFault::Before(change)) => give_up(alloc, folder, change),
         Err(FinishFault::NoMemory(change)) => give_up(alloc, folder, change),
-        Err(FinishFault::Closing) => false,
+        Err(FinishFault::Closing) => Outcome::Either,
     }
 }
 
 // Sets two nodes, or neither.
-fn set_both(
-    alloc: Global,
-    folder: &mut MemoryFolder,
-    first: (&Path, &Option<Node>),
-    second: (&Path, &Option<Node>),
-) -> bool
-    requires { ¬ (OpensGate (told_by folder.old).now) }
-{
+fn set_both(alloc: Global, folder: &mut MemoryFolder, first: &Touch, second: &Touch) -> Outcome {
+    if !is_shut(alloc, folder) {
+        return Outcome::Old;
+    }
     let Ok(mut change) = Change::begin(alloc, folder) else {
-        return false;
+        return Outcome::Old;
     };
-    if !touch_at(alloc, folder, &mut change, first.0, first.1) {
+    if !touch_at(alloc, folder, &mut change, first) {
         return give_up(alloc, folder, change);
     }
-    if !touch_at(alloc, folder, &mut change, second.0, second.1) {
+    if !touch_at(alloc, folder, &mut change, second) {
         return give_up(alloc, folder, change);
     }
     complete(alloc, folder, change)
-}
-
-// A new folder in which the two nodes are set, or neither. After so many calls each fails.
-fn set_anew(
-    alloc: Global,
-    passes: u64,
-    first: (&Path, &Option<Node>),
-    second: (&Path, &Option<Node>),
-) -> (MemoryFolder, bool) {
-    let mut folder = MemoryFolder::new(alloc);
-    folder.fuse(passes);
-    let done = set_both(alloc, &mut folder, first, second);
-    (folder, done)
-}
-
-#[test]
-fn a_change_sets_what_it_touches(rt: HostRuntime) -> Result<(), Fail> {
-    let alloc = rt.alloc();
-    let directory = path_of(alloc, "d")?;
-    let below = path_of(alloc, "d/f")?;
-    let made = node_of(alloc, "/")?;
-    let link = node_of(alloc, "target")?;
-    let (mut folder, done) = set_anew(alloc, u64::MAX, (&directory, &made), (&below, &link));
-    assert!(rt; done);
-    assert_eq!(rt; folder.node(&directory), made.as_ref());
-    assert_eq!(rt; folder.node(&below), link.as_ref());
-    assert_eq!(rt; folder.touched().len(), 0);
-    assert_eq!(rt; gate_of(alloc, &mut folder)?, Gate::IsClosed);
-    Ok(())
-}
-
-#[test]
-fn a_refused_touch_leaves_nothing(rt: HostRuntime) -> Result<(), Fail> {
-    let alloc = rt.alloc();
-    let directory = path_of(alloc, "d")?;
-    let far = path_of(alloc, "e/f")?;
-    let made = node_of(alloc, "/")?;
-    let (mut folder, done) = set_anew(alloc, u64::MAX, (&directory, &made), (&far, &made));
-    assert!(rt; !done);
-    assert_eq!(rt; folder.node(&directory), None);
-    assert_eq!(rt; gate_of(alloc, &mut folder)?, Gate::IsClosed);
-    Ok(())
-}
-
-#[test]
-fn a_change_that_is_stopped_is_not_done(rt: HostRuntime) -> Result<(), Fail> {
-    let alloc = rt.alloc();
-    let directory = path_of(alloc, "d")?;
-    let below = path_of(alloc, "d/f")?;
-    let made = node_of(alloc, "/")?;
-    let (whole, done) = set_anew(alloc, u64::MAX, (&directory, &made), (&below, &made));
-    assert!(rt; done);
-    for passes in 0..whole.calls() {
-        let (_, done) = set_anew(alloc, passes, (&directory, &made), (&below, &made));
-        assert!(rt; !done, "after {passes}");
-    }
-    Ok(())
 }

@@ -2,7 +2,8 @@ use Rattle.std.proofs.Common.{None, List, ℕ, Option, subst}
 use Rattle.folder_core.specs.Folder.{Map}
 use Rattle.folder_core.specs.Step.{OnTold}
 use Rattle.install_journal.specs.Overlay.{SameOutside}
-use Rattle.install_journal.specs.Preparing.{Moves, IsDamage, Finds}
+use Rattle.install_journal.specs.Firsts.{Finds}
+use Rattle.install_journal.specs.Preparing.{Moves, IsDamage}
 use Rattle.install_journal.proofs.Beginnings.{on_ok, undamaged_each, prepared_shut, moves_stay, closed_restored, looks_closed, outside_then, open_then}
 use Rattle.install_journal.proofs.Preparings.{looks_move, both_move, still_prepared, closed_then, looked_on}
 use Rattle.install_journal.proofs.beginning.begin_synced.Goals as goal

@@ -1,9 +1,9 @@
-use Rattle.std.proofs.Common.{◌≡◌, ℕ, List, [], ◌∷◌, ◌++◌, None, Option, get_or, arith, sym, subst, below_more}
+use Rattle.std.proofs.Common.{◌≡◌, ℕ, List, [], ◌∷◌, ◌++◌, None, Option, get_or, arith, sym, ◌∙◌, subst, below_more}
 use Rattle.folder_core.specs.Folder.{Map, IsKid}
-use Rattle.folder_core.specs.Name.{AreThose}
+use Rattle.folder_core.specs.Name.{AreRising, AreThose}
 use Rattle.folder_core.specs.Step.{OnTold}
 use Rattle.install_journal.specs.Preparing.{IsChild}
-use Rattle.install_journal.proofs.Damages.{found_none, looks_then, looks_back, name_at, below_none}
+use Rattle.install_journal.proofs.Damages.{found_none, looks_then, looks_back, name_at, below_none, below_told}
 use Rattle.install_journal.proofs.Opens.{looks_of}
 use Rattle.install_journal.proofs.damage.below_entries.Goals as goal
 
@@ -45,3 +45,13 @@ returns-then-is_some-clause-looks g c =
 pub returns-clause-found : goal.returns-clause-found
 returns-clause-found g c =
     below_none (g.F.Folder.told c.args.folder.now) c.args.entries.now c.items-names.result.now c.loop-name.name-index c.requires (g.met.F.Folder.image_now c.args.folder.now) c.loop-name.invariant.kids c.loop-name.invariant.none c.loop-name-test.false
+
+pub returns-then-is_some-clause-found : goal.returns-then-is_some-clause-found
+returns-then-is_some-clause-found g c =
+    let inv = c.loop-name.invariant in
+    let name : c.name-item.result ≡ get_or c.items-names.result.now c.loop-name.name-index [] = name_at c.items-names.result.now c.loop-name.name-index c.name-item.result c.loop-name-test.true c.name-item.is in
+    below_told (g.F.Folder.told c.args.folder.now) c.args.entries.now c.in_ok-found.found c.items-names.result.now c.loop-name.name-index (sym c.is_some.ensures ∙ c.if-is_some.true) c.requires (g.met.F.Folder.image_now c.args.folder.now)
+    (subst AreRising (sym c.items-names.ensures) c.in_ok-names.ensures.rising) inv.kids inv.none c.loop-name-test.true
+    (looks_back g.F.Folder.told g.F.Folder.left_since c.args.folder.now c.loop-name.folder (λ (m : Map). IsChild m (c.args.entries.now ++ get_or c.items-names.result.now c.loop-name.name-index [] ∷ []) c.in_ok-found.found) inv.looks
+    (subst (λ (n : List ℕ). OnTold (g.F.Folder.told c.loop-name.folder) (λ s. IsChild s.now (c.args.entries.now ++ n ∷ []) c.in_ok-found.found)) name
+    (subst (λ (p : List (List ℕ)). OnTold (g.F.Folder.told c.loop-name.folder) (λ s. IsChild s.now p c.in_ok-found.found)) c.in_ok-child.ensures c.in_ok-found.ensures.found)))

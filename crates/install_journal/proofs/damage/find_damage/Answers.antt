@@ -2,7 +2,8 @@ use Rattle.std.proofs.Common.{List, ℕ, subst}
 use Rattle.folder_core.specs.Folder.{Map}
 use Rattle.folder_core.specs.Step.{OnTold}
 use Rattle.backup_store.specs.Places.{gate_path}
-use Rattle.install_journal.specs.Preparing.{IsChild, IsBelowEntry, Finds}
+use Rattle.install_journal.specs.Firsts.{Finds}
+use Rattle.install_journal.specs.Preparing.{IsChild, IsBelowEntry}
 use Rattle.install_journal.proofs.Damages.{looks_then, looks_back, damage_told}
 use Rattle.install_journal.proofs.damage.find_damage.Goals as goal
 

@@ -1,7 +1,8 @@
 use Rattle.std.proofs.Common.{None}
 use Rattle.folder_core.specs.Folder.{Map}
 use Rattle.install_journal.specs.Overlay.{SameOutside}
-use Rattle.install_journal.specs.Preparing.{IsDamage, Finds}
+use Rattle.install_journal.specs.Firsts.{Finds, IsFirst}
+use Rattle.install_journal.specs.Preparing.{IsDamage}
 use Rattle.install_journal.proofs.Beginnings.{on_ok, unchanged_each, damage_each, none_left, looks_left, looks_shut, mid_prepared, mid_back, then_left, then_restores, then_stays, then_shut, then_same, recover_of, ok_each}
 use Rattle.install_journal.proofs.Opens.{looks_of}
 use Rattle.install_journal.proofs.change.Change.begin.Goals as goal
@@ -56,7 +57,7 @@ returns-in-Ok-sync-clause-undamaged g c =
 pub returns-in-Ok-sync-clause-damaged : goal.returns-in-Ok-sync-clause-damaged
 returns-in-Ok-sync-clause-damaged g c =
     damage_each c.begin_synced.result _ _ (λ at is. mid_back g.F.Folder.told g.F.Folder.left_since c.args.folder.now c.requires (g.met.F.Folder.only_now c.args.folder.now)
-    c.sync.new.self c.sync.ensures.stays c.in-Ok-sync.ensures.synced c.in-Ok-sync.ensures.settled c.sync.ensures.crash c.sync.ensures.time (λ (m : Map). IsDamage m at) is) c.begin_synced.ensures.damaged
+    c.sync.new.self c.sync.ensures.stays c.in-Ok-sync.ensures.synced c.in-Ok-sync.ensures.settled c.sync.ensures.crash c.sync.ensures.time (λ (m : Map). IsFirst (IsDamage m) at) is) c.begin_synced.ensures.damaged
 
 pub returns-in-Ok-sync-clause-unchanged : goal.returns-in-Ok-sync-clause-unchanged
 returns-in-Ok-sync-clause-unchanged g c =

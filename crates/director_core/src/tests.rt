@@ -37,26 +37,36 @@ fn words_of(alloc: Global, line: &str) -> Result<Vec<Text>, NoMemory> {
     Ok(words)
 }
 
-/// Runs the words over the folder and a source of these files: the status, and what is printed.
-fn command(
+/// Runs the words over the folder and the source: the status, and what is printed.
+fn command_over(
     alloc: Global,
     folder: &mut MemoryFolder,
-    files: &[(&str, &str)],
+    source: &mut MemoryTree,
     line: &str,
 ) -> Result<(Status, MemorySink), Fail> {
     let words = words_of(alloc, line)?;
-    let mut source = source_of(alloc, files)?;
     let mut input = MemoryInput::new(alloc, List::new(alloc), List::new(alloc));
     let mut out = MemorySink::new(alloc, 4096, List::new(alloc))?;
     let status = run(
         alloc,
         words.as_slice(),
         folder,
-        &mut source,
+        source,
         &mut input,
         &mut out,
     );
     Ok((status, out))
+}
+
+/// The same over a source of these files.
+fn command(
+    alloc: Global,
+    folder: &mut MemoryFolder,
+    files: &[(&str, &str)],
+    line: &str,
+) -> Result<(Status, MemorySink), Fail> {
+    let mut source = source_of(alloc, files)?;
+    command_over(alloc, folder, &mut source, line)
 }
 
 const FIRST: [(&str, &str); 1] = [("f/p2.inf", "units.0.id=a\nunits.0.version=1.0.0\n")];
@@ -264,42 +274,70 @@ fn the_first_of_a_name_wins(rt: HostRuntime) -> Result<(), Fail> {
     Ok(())
 }
 
-/// A source of one description of so many bytes.
-fn source_of_length(alloc: Global, length: usize) -> Result<MemoryTree, Fail> {
+/// A comment of so many bytes.
+fn comment_of(alloc: Global, length: usize) -> Result<Vec<u8>, NoMemory> {
     let mut bytes = Vec::new(alloc);
     for _ in 0..length {
         bytes.push(b'#')?;
     }
-    let blob = Blob::new(List::from_vec(bytes)).ok_or("a short file")?;
-    let mut source = MemoryTree::new(alloc);
-    source.put(&path_at(alloc, "f/p2.inf")?, &blob)?;
-    Ok(source)
+    Ok(bytes)
 }
 
-/// What an install from a description of so many bytes prints.
-fn printed_of_length(alloc: Global, length: usize) -> Result<MemorySink, Fail> {
-    let words = words_of(alloc, "install -p ide a")?;
-    let mut source = source_of_length(alloc, length)?;
+/// A unit of so many requirements.
+fn requirements_of(alloc: Global, count: usize) -> Result<Vec<u8>, NoMemory> {
+    let mut bytes = Vec::from_slice(alloc, b"units.0.id=a\nunits.0.version=1\n")?;
+    for number in 0..count {
+        push_requirement(alloc, &mut bytes, number)?;
+    }
+    Ok(bytes)
+}
+
+fn push_requirement(alloc: Global, bytes: &mut Vec<u8>, number: usize) -> Result<(), NoMemory> {
+    let number = number.to_string(alloc)?;
+    for (key, value) in [("namespace", "java.package"), ("name", "org.example")] {
+        for part in [
+            "units.0.requires.",
+            number.as_str(),
+            ".",
+            key,
+            "=",
+            value,
+            "\n",
+        ] {
+            bytes.extend_from_slice(part.as_bytes())?;
+        }
+    }
+    Ok(())
+}
+
+/// What an install from this description ends with, and prints.
+fn install_from(alloc: Global, description: Vec<u8>) -> Result<(Status, MemorySink), Fail> {
+    let blob = Blob::new(List::from_vec(description)).ok_or("a short file")?;
+    let mut source = MemoryTree::new(alloc);
+    source.put(&path_at(alloc, "f/p2.inf")?, &blob)?;
     let mut folder = MemoryFolder::new(alloc);
-    let mut input = MemoryInput::new(alloc, List::new(alloc), List::new(alloc));
-    let mut out = MemorySink::new(alloc, 4096, List::new(alloc))?;
-    let _ = run(
-        alloc,
-        words.as_slice(),
-        &mut folder,
-        &mut source,
-        &mut input,
-        &mut out,
-    );
-    Ok(out)
+    command_over(alloc, &mut folder, &mut source, "install -p ide a")
 }
 
 #[test]
 fn a_description_has_a_limit(rt: HostRuntime) -> Result<(), Fail> {
-    let most = printed_of_length(rt.alloc(), 1_048_576)?;
+    let alloc = rt.alloc();
+    let (_, most) = install_from(alloc, comment_of(alloc, 1_048_576)?)?;
     assert_eq!(rt; most.bytes(), b"unknown a\n".as_slice());
-    let more = printed_of_length(rt.alloc(), 1_048_577)?;
+    let (status, more) = install_from(alloc, comment_of(alloc, 1_048_577)?)?;
+    assert_eq!(rt; status.code(), 15);
     assert_eq!(rt; more.bytes(), b"limit InfBytes 1048576\n".as_slice());
+    Ok(())
+}
+
+#[test]
+fn requirements_have_a_limit(rt: HostRuntime) -> Result<(), Fail> {
+    let alloc = rt.alloc();
+    let (_, most) = install_from(alloc, requirements_of(alloc, 1024)?)?;
+    assert_eq!(rt; most.bytes(), b"not-built\n".as_slice());
+    let (status, more) = install_from(alloc, requirements_of(alloc, 1025)?)?;
+    assert_eq!(rt; status.code(), 15);
+    assert_eq!(rt; more.bytes(), b"limit Requirements 1024\n".as_slice());
     Ok(())
 }
 

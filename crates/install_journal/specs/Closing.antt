@@ -24,6 +24,11 @@ pub record TouchesGate (s t : Told) : Type 0 where
   pub synced : t.synced ≡ s.synced
   pub touched : (path : List (List ℕ)) → Contains t.touched path → path ≡ gate_path
 
+-- All that stood was synced, and nothing but the gate was touched since.
+pub record HasBegunClosing (s t : Told) : Type 0 where
+  pub synced : t.synced ≡ s.now
+  pub touched : (path : List (List ℕ)) → Contains t.touched path → path ≡ gate_path
+
 -- The gate is closed, and all is synced.
 pub record IsClosed (s t : Told) : Type 0 where
   pub now : t.now ≡ set_at s.now gate_path None
@@ -48,3 +53,9 @@ abbrev pub HasFailed : FinishFault → Type 0
 HasFailed (Before change) = Unit {0}
 HasFailed (NoMemory change) = ⊥
 HasFailed Closing = Unit {0}
+
+-- Where the fault came when the gate was closed or after it, P holds.
+abbrev pub OnClosing : Type 0 → FinishFault → Type 0
+OnClosing P (Before change) = Unit {0}
+OnClosing P (NoMemory change) = Unit {0}
+OnClosing P Closing = P

@@ -2,7 +2,7 @@ ghost use Rattle.std.specs.Prelude.{◌≡◌, OnOk, IfErr, IsErrAnd};
 ghost use Rattle.folder_core.specs.Cause.{HasCause};
 ghost use Rattle.folder_core.specs.Crash.{LeavesOnly};
 ghost use Rattle.folder_core.specs.Step.{OnTold, Step};
-ghost use Rattle.install_journal.specs.Closing.{OldOrNew, HandsBack, HasFailed};
+ghost use Rattle.install_journal.specs.Closing.{OldOrNew, HandsBack, HasBegunClosing, HasFailed, OnClosing};
 ghost use Rattle.install_journal.specs.Open.{IsOpen, IsReady, spoiled};
 ghost use Rattle.install_journal.specs.Overlay.{SameOutside};
 ghost use Rattle.install_journal.specs.Restored.{RestoresSame, IsSettled};
@@ -17,7 +17,8 @@ use std::alloc::Global;
 impl Change {
     /// Makes what stands now the installation: syncs, takes the gate away, and syncs. At Ok it survives every crash.
     ///
-    /// Where the gate wasn't touched, the change is handed back, and a crash still leaves the old installation.
+    /// Where the gate wasn't touched, the change is handed back, and a crash still leaves the old installation. `Closing` comes
+    /// only once all that stood was synced.
     pub fn finish<F: Folder>(
         mut self,
         alloc: Global,
@@ -31,6 +32,7 @@ impl Change {
         ensures handed_back { IfErr result (HandsBack (λ change. change ≡ spoiled self)) }
         ensures open { IfErr result (HandsBack (λ change. OnTold (F.told folder.new) (IsOpen change))) }
         ensures restores { IfErr result (HandsBack (λ change. RestoresSame F.told F.left_since folder.old folder.new)) }
+        ensures closing { IfErr result (OnClosing (Step (F.told folder.old) (F.told folder.new) HasBegunClosing)) }
         ensures cause { HasCause (F.faults folder.old) (F.faults folder.new) (IsErrAnd result HasFailed) }
     {
         let Ok(gate) = gate_path(alloc) else {

@@ -1,4 +1,4 @@
-ghost use Rattle.std.specs.Prelude.{◌≡◌, ◌≢◌, [], ◌+◌, ◌↔◌, IfOk, IfErr, IfSome, OnOk, IsErrOf};
+ghost use Rattle.std.specs.Prelude.{◌≡◌, ◌≢◌, [], ◌+◌, ◌↔◌, IfOk, IfErr, IfSome, OnOk, OnErr, IsErrOf};
 ghost use Rattle.std.specs.Option.{option_copied};
 ghost use Rattle.folder_core.specs.Cause.{HasCause};
 ghost use Rattle.folder_core.specs.Folder.{CanSet, set_at};
@@ -23,7 +23,7 @@ impl Change {
     /// Keeps what stands at a path as an entry, and then puts a node there, or takes the one there away.
     ///
     /// After a refusal only `look`, `kids`, `undo_last`, `abandon` and `leave` may be called. The path is untouched then, but
-    /// where the folder failed: it may have any node or none then.
+    /// where the folder failed: it may have any node or none then. If an entry was kept, it is this path's.
     pub fn touch<F: Folder>(
         &mut self,
         alloc: Global,
@@ -43,6 +43,7 @@ impl Change {
         ensures kept { OnOk result (self.new ≡ lengthened self.old) }
         ensures ready { OnOk result (IsReady self.new) }
         ensures entry { IfOk result (λ number. Step (F.told folder.old) (F.told folder.new) (λ s t. HoldsEntry t.now number.0 path.now (s.now path.now))) }
+        ensures newest { OnErr result (entries_of self.new ≡ entries_of self.old + 1 → Step (F.told folder.old) (F.told folder.new) (λ s t. HoldsEntry t.now (entries_of self.old + 1) path.now (s.now path.now))) }
         ensures sets { OnOk result (Step (F.told folder.old) (F.told folder.new) (λ s t. SameOutside t.now (set_at s.now path.now (option_copied to.entry)))) }
         ensures elsewhere { Step (F.told folder.old) (F.told folder.new) (λ s t. SameOutsideBut path.now s.now t.now) }
         ensures refused { IfErr result (λ fault. IsRefused fault self.old self.new) }

@@ -103,3 +103,9 @@ returns-in-Err-Failed-set-clause-restores g c =
     set_restores g.F.Folder.told g.F.Folder.left_since c.args.self.now c.args.path.now c.requires.ready.ready c.requires.outside c.args.folder.now c.requires.«open» c.requires.place (g.met.F.Folder.image_now c.args.folder.now) (g.met.F.Folder.only_now c.args.folder.now)
     c.keep.new.folder c.keep.ensures.elsewhere c.keep.ensures.come c.keep.ensures.leaves
     (omega arith) c.in-Ok.ensures.kept c.in-Ok.ensures.counted (g.met.F.Folder.image_now c.keep.new.folder) c.set.new.self c.set.ensures.crash c.set.ensures.elsewhere c.set.ensures.time
+
+pub returns-in-Err-Failed-set-clause-newest : goal.returns-in-Err-Failed-set-clause-newest
+returns-in-Err-Failed-set-clause-newest g c =
+    λ _. set_holds g.F.Folder.told g.F.Folder.left_since c.args.self.now c.args.path.now c.requires.ready.ready c.requires.outside c.args.folder.now c.requires.«open» c.requires.place (g.met.F.Folder.image_now c.args.folder.now) (g.met.F.Folder.only_now c.args.folder.now)
+    c.keep.new.folder c.keep.ensures.elsewhere c.keep.ensures.come c.keep.ensures.leaves
+    (omega arith) c.in-Ok.ensures.kept c.in-Ok.ensures.counted (g.met.F.Folder.image_now c.keep.new.folder) c.set.new.self c.set.ensures.crash c.set.ensures.elsewhere c.set.ensures.time

@@ -294,19 +294,15 @@ fn requirements_of(alloc: Global, count: usize) -> Result<Vec<u8>, NoMemory> {
 
 fn push_requirement(alloc: Global, bytes: &mut Vec<u8>, number: usize) -> Result<(), NoMemory> {
     let number = number.to_string(alloc)?;
-    for (key, value) in [("namespace", "java.package"), ("name", "org.example")] {
-        for part in [
-            "units.0.requires.",
-            number.as_str(),
-            ".",
-            key,
-            "=",
-            value,
-            "\n",
-        ] {
-            bytes.extend_from_slice(part.as_bytes())?;
-        }
-    }
+    push_part(bytes, number.as_str(), "namespace=java.package\n")?;
+    push_part(bytes, number.as_str(), "name=org.example\n")
+}
+
+fn push_part(bytes: &mut Vec<u8>, number: &str, part: &str) -> Result<(), NoMemory> {
+    bytes.extend_from_slice(b"units.0.requires.")?;
+    bytes.extend_from_slice(number.as_bytes())?;
+    bytes.push(b'.')?;
+    bytes.extend_from_slice(part.as_bytes())?;
     Ok(())
 }
 

@@ -9,8 +9,6 @@ mod name;
 mod node;
 mod path;
 mod stream;
-#[cfg(test)]
-mod tests;
 mod tree;
 
 pub use blob::Blob;

@@ -10,8 +10,6 @@ mod nodes;
 mod places;
 mod schedule;
 mod stream;
-#[cfg(test)]
-mod tests;
 mod tree;
 
 pub use folder::MemoryFolder;

@@ -1,4 +1,4 @@
-ghost use Rattle.std.specs.Prelude.{◌≡◌, ◌↔◌, IsTrue, OnErr, OnOk, Some};
+ghost use Rattle.std.specs.Prelude.{◌≡◌, ◌<◌, ◌↔◌, length, IsTrue, OnErr, OnOk, Some};
 ghost use Rattle.folder_core.specs.Formed.{AreFiles-had};
 ghost use Rattle.folder_core.specs.Path.{IsPath};
 ghost use Rattle.folder_core.specs.Tree.{AreFiles};
@@ -115,6 +115,12 @@ fn place_file(files: &mut BTreeMap<Path, Blob>, path: &Path, blob: &Blob) -> Res
     Ok(())
 }
 
+fn is_longer(blob: &Blob, limit: u64) -> bool
+    ensures { IsTrue result ↔ (limit < length blob.now) }
+{
+    blob.bytes().len() as u64 > limit
+}
+
 impl Tree for MemoryTree {
     ghost use Rattle.std.specs.Prelude.{◌≡◌, ◌≤◌, ◌<◌, ◌↔◌, [], ◌∷◌, ◌++◌, length, Some, IfOk, IfSome, IsErrOf, IsSomeAnd};
     ghost use Rattle.folder_core.specs.Cause.{HasCause};
@@ -168,7 +174,7 @@ impl Tree for MemoryTree {
         let Some(blob) = self.files.get(path) else {
             return Ok(None);
         };
-        if blob.bytes().len() as u64 > limit {
+        if is_longer(blob, limit) {
             return Err(TreeError::TooLarge);
         }
         Ok(Some(blob.copy()?))

@@ -18,6 +18,3 @@ mod macros;
 mod table;
 
 pub use table::CaseTable;
-
-#[cfg(test)]
-mod tests;

@@ -22,8 +22,3 @@ pub use env_set::is_env_key;
 pub use filter::Filter;
 pub use filter_fault::FilterFault;
 pub use test::Test;
-
-#[cfg(test)]
-mod parse_tests;
-#[cfg(test)]
-mod tests;

@@ -20,6 +20,3 @@ pub use range::{Ceiling, Range};
 pub use text::{Text, TextFault};
 pub use twin::Twin;
 pub use version::{Version, VersionFault};
-
-#[cfg(test)]
-mod tests;

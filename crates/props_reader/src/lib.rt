@@ -13,6 +13,3 @@ mod signs;
 pub use fault::PropsFault;
 pub use pairs::Pairs;
 pub use reader::read;
-
-#[cfg(test)]
-mod tests;

@@ -1,7 +1,7 @@
 ghost use Rattle.std.specs.Prelude.{◌≡◌, ◌≤◌, ◌<◌, ◌+◌, ◌==◌, [], ◌∷◌, ◌++◌, None, Some, Bool, map, length, replicate, count_by, All, AllPairs, ◌≢◌, IfOk, OnOk, OnErr, IsTrue, IsSome, not};
 ghost use Rattle.pb_core.specs.AtLeast.{at_least, clause};
 ghost use Rattle.pb_core.specs.ConstraintAt.{constraint_at};
-ghost use Rattle.pb_core.specs.KeptView.{KeptView, IsKeepable};
+ghost use Rattle.pb_core.specs.KeptView.{KeptView, IsKeepable, place_of};
 ghost use Rattle.pb_core.specs.Literal.{complement};
 ghost use Rattle.pb_core.specs.Normal.{IsNormalOver};
 ghost use Rattle.pb_core.specs.Occurrences.{occurrences_from, holds_literal};
@@ -126,7 +126,7 @@ impl Kept {
         ensures values { self.new.values ≡ make_true self.old.values lit }
         ensures steps { steps.new ≡ steps.old + count_by (holds_literal (complement lit)) self.old.constraints }
     {
-        let place = place_of(lit.complement());
+        let place = denied_place(lit);
         lower(&mut self.slacks, self.lists[place].as_slice(), steps);
         self.values.set(lit.variable, Some(lit.positive));
     }
@@ -142,8 +142,7 @@ impl Kept {
             steps.new ≡ steps.old + count_by (holds_literal (record { variable = variable; positive = not b })) self.old.constraints }
     {
         let positive = self.values.value(variable).unwrap();
-        let lit = Lit { variable, positive };
-        let place = place_of(lit.complement());
+        let place = freed_place(variable, positive);
         raise(&mut self.slacks, self.lists[place].as_slice(), steps);
         self.values.set(variable, None);
     }
@@ -218,6 +217,22 @@ impl Kept {
         let terms = clause_terms(*self.rows.allocator(), lits.items())?;
         self.append(terms, 1)
     }
+}
+
+/// Where the occurrences stand of the literal that is false once this one is true.
+fn denied_place(lit: Lit) -> usize
+    requires { 0 < lit.variable }
+    ensures { result ≡ place_of (complement lit) }
+{
+    place_of(lit.complement())
+}
+
+/// Where the occurrences stand of the literal that is false while the variable has this value.
+fn freed_place(variable: u32, positive: bool) -> usize
+    requires { 0 < variable }
+    ensures { result ≡ place_of (complement (record { variable = variable; positive = positive })) }
+{
+    denied_place(Lit { variable, positive })
 }
 
 /// The terms of a clause's constraint.

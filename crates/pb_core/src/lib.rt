@@ -20,8 +20,3 @@ pub use normal_form::normalise;
 pub use occurrences::Occurrence;
 pub use slacks::slack;
 pub use steps::Steps;
-
-#[cfg(test)]
-mod tests;
-#[cfg(test)]
-mod weighted_tests;

@@ -14,7 +14,7 @@ raise-requires-clause-numbered g c =
     let values : c.self.inside.values ≡ c.args.self.now.values = ap (λ (v : KeptView). v.values) view in
     let lit : Lit = (record { variable = c.args.variable; positive = c.unwrap-positive.result }) in
     let most : lit.variable ≤ length c.self.inside.values = rw values c.requires.within in
-    let place : c.place_of-place.result ≡ place_of (complement lit) = c.place_of-place.ensures ∙ ap place_of c.complement.ensures in
+    let place : c.freed_place-place.result ≡ place_of (complement lit) = c.freed_place-place.ensures in
     let list : c.index.result.now ≡ get_or c.self.inside.lists.items (place_of (complement lit)) c.index.result.now = rw place at c.index.ensures in
     let occurrences : c.as_slice.result.now ≡ occurrences_from 1 (complement lit) (map row_seen c.self.inside.rows.items) = c.as_slice.ensures.value ∙ list_is c.self.inside.rows.items c.self.inside.slacks.items c.self.inside.lists.items c.self.inside.values (complement lit) c.index.result.now c.self.invariant c.requires.from_one most list in
     rw (occurrences, c.deref_mut.ensures.value) (list_numbered c.self.inside.rows.items c.self.inside.slacks.items (lists_seen c.self.inside.lists.items) c.self.inside.values (complement lit) c.self.invariant)
@@ -25,7 +25,7 @@ raise-requires-clause-fit g c =
     let values : c.self.inside.values ≡ c.args.self.now.values = ap (λ (v : KeptView). v.values) view in
     let lit : Lit = (record { variable = c.args.variable; positive = c.unwrap-positive.result }) in
     let most : lit.variable ≤ length c.self.inside.values = rw values c.requires.within in
-    let place : c.place_of-place.result ≡ place_of (complement lit) = c.place_of-place.ensures ∙ ap place_of c.complement.ensures in
+    let place : c.freed_place-place.result ≡ place_of (complement lit) = c.freed_place-place.ensures in
     let list : c.index.result.now ≡ get_or c.self.inside.lists.items (place_of (complement lit)) c.index.result.now = rw place at c.index.ensures in
     let occurrences : c.as_slice.result.now ≡ occurrences_from 1 (complement lit) (map row_seen c.self.inside.rows.items) = c.as_slice.ensures.value ∙ list_is c.self.inside.rows.items c.self.inside.slacks.items c.self.inside.lists.items c.self.inside.values (complement lit) c.index.result.now c.self.invariant c.requires.from_one most list in
     rw (occurrences, c.deref_mut.ensures.value) (all_bounds c.self.inside.rows.items c.self.inside.slacks.items (lists_seen c.self.inside.lists.items) c.self.inside.values (complement lit) c.self.invariant)
@@ -36,7 +36,7 @@ invariant_of-self g c =
     let values : c.self.inside.values ≡ c.args.self.now.values = ap (λ (v : KeptView). v.values) view in
     let lit : Lit = (record { variable = c.args.variable; positive = c.unwrap-positive.result }) in
     let most : lit.variable ≤ length c.self.inside.values = rw values c.requires.within in
-    let place : c.place_of-place.result ≡ place_of (complement lit) = c.place_of-place.ensures ∙ ap place_of c.complement.ensures in
+    let place : c.freed_place-place.result ≡ place_of (complement lit) = c.freed_place-place.ensures in
     let list : c.index.result.now ≡ get_or c.self.inside.lists.items (place_of (complement lit)) c.index.result.now = rw place at c.index.ensures in
     let occurrences : c.as_slice.result.now ≡ occurrences_from 1 (complement lit) (map row_seen c.self.inside.rows.items) = c.as_slice.ensures.value ∙ list_is c.self.inside.rows.items c.self.inside.slacks.items c.self.inside.lists.items c.self.inside.values (complement lit) c.index.result.now c.self.invariant c.requires.from_one most list in
     let is_set : value_of c.self.inside.values c.args.variable ≡ Some c.unwrap-positive.result = sym c.value.ensures ∙ c.unwrap-positive.ensures in
@@ -50,7 +50,7 @@ returns-clause-steps g c =
     let values : c.self.inside.values ≡ c.args.self.now.values = ap (λ (v : KeptView). v.values) view in
     let lit : Lit = (record { variable = c.args.variable; positive = c.unwrap-positive.result }) in
     let most : lit.variable ≤ length c.self.inside.values = rw values c.requires.within in
-    let place : c.place_of-place.result ≡ place_of (complement lit) = c.place_of-place.ensures ∙ ap place_of c.complement.ensures in
+    let place : c.freed_place-place.result ≡ place_of (complement lit) = c.freed_place-place.ensures in
     let list : c.index.result.now ≡ get_or c.self.inside.lists.items (place_of (complement lit)) c.index.result.now = rw place at c.index.ensures in
     let occurrences : c.as_slice.result.now ≡ occurrences_from 1 (complement lit) (map row_seen c.self.inside.rows.items) = c.as_slice.ensures.value ∙ list_is c.self.inside.rows.items c.self.inside.slacks.items c.self.inside.lists.items c.self.inside.values (complement lit) c.index.result.now c.self.invariant c.requires.from_one most list in
     let seen : map row_seen c.self.inside.rows.items ≡ c.args.self.now.constraints = ap (λ (v : KeptView). v.constraints) view in

@@ -1,5 +1,5 @@
 use Rattle.std.proofs.Common.{◌≡◌, length}
-use Rattle.pb_core.proofs.tests.no_constraint.Given as goal
+use Rattle.constraints_suite.proofs.weights.labels.Given as goal
 
 abbrev pub invariant-loop : goal.invariant-loop
 invariant-loop l = length l.labels ≡ l.counter

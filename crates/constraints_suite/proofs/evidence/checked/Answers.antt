@@ -1,0 +1,12 @@
+use Rattle.deriv_check.specs.EvidenceForm.{IsEvidence}
+use Rattle.constraints_suite.proofs.evidence.checked.Goals as goal
+
+pub check-requires : goal.check-requires
+check-requires c =
+    let form : IsEvidence c.in_ok-evidence.evidence = c.in_ok-evidence.ensures.exact.form in
+    record {
+      labels = form.problem.few_labels;
+      constraints = form.problem.few_constraints;
+      lines = form.derivation.few_lines;
+      normal = λ k d h. (form.problem.constraints k d h).normal;
+    }

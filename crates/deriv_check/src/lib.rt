@@ -27,8 +27,3 @@ pub use derivation::{CheckFault, Derivation, Evidence, Line, Verdict, Why};
 pub use evidence_reader::read_evidence;
 pub use evidence_writer::write_evidence;
 pub use usage::used;
-
-#[cfg(test)]
-mod evidence_tests;
-#[cfg(test)]
-mod tests;

@@ -57,4 +57,6 @@ fn refused(rt: HostRuntime, status: Status) -> Status
 }
 
 #[cfg(test)]
+mod stream_tests;
+#[cfg(test)]
 mod tests;

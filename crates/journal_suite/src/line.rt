@@ -1,0 +1,12 @@
+//! The words of an answer.
+
+use osgi_version::NoMemory;
+
+/// Adds a word to a line, with a blank before it where it isn't the first.
+pub fn say(line: &mut Vec<u8>, word: &str) -> Result<(), NoMemory> {
+    if !line.is_empty() {
+        line.push(b' ')?;
+    }
+    line.extend_from_slice(word.as_bytes())?;
+    Ok(())
+}

@@ -11,8 +11,6 @@ mod places;
 mod putting_back;
 mod reading;
 mod settling;
-#[cfg(test)]
-mod tests;
 mod writing;
 
 pub use entry::{Entry, EntryNumber};

@@ -3,7 +3,6 @@ pub mod Apart
 pub mod Backs
 pub mod Beginnings
 pub mod Brokens
-pub mod Calls
 pub mod Clearings
 pub mod Closings
 pub mod Counting

@@ -1,6 +1,5 @@
 pub mod Abandoning
 pub mod Broken
-pub mod Calls
 pub mod Closing
 pub mod Firsts
 pub mod Fitting

@@ -18,8 +18,6 @@ mod preparing;
 mod reading;
 mod recovering;
 mod restoring;
-#[cfg(test)]
-mod tests;
 mod touching;
 mod undoing;
 

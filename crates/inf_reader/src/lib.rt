@@ -22,8 +22,3 @@ mod value;
 pub use fault::InfRefusal;
 pub use names::NameSet;
 pub use units::units_of;
-
-#[cfg(test)]
-mod filter_tests;
-#[cfg(test)]
-mod tests;

@@ -1,5 +1,4 @@
 pub mod Applies
-pub mod Marks
 pub mod Matches
 pub mod Met
 pub mod Profile

@@ -31,6 +31,3 @@ pub use required::Required;
 pub use touchpoint::Touchpoint;
 pub use unit::Unit;
 pub use update::Update;
-
-#[cfg(test)]
-mod tests;

@@ -1,0 +1,23 @@
+//! Computes the definitions of what may be installed together, slowly, on rows of worked examples: a row of standard
+//! input gives units, an environment or a question, and its line of standard output answers.
+#![tactic(auto)]
+
+mod answer;
+mod chains;
+mod judges;
+mod scene;
+
+use scene::Scene;
+use std::io::{self, BufRead, BufReader};
+
+fn main(rt: HostRuntime) -> io::Result<()> {
+    let mut scene = Scene::new(rt.alloc());
+    let input = BufReader::new(rt.alloc(), rt.reader())?;
+    for line in input.lines(rt.alloc()) {
+        match scene.answer(rt.alloc(), line?.as_str()) {
+            Ok(answer) => rt.write_all(answer.as_slice())?,
+            Err(_) => rt.write_all(b"no memory\n")?,
+        }
+    }
+    Ok(())
+}

@@ -19,6 +19,3 @@ mod state_lines;
 mod writing;
 
 pub use command::run;
-
-#[cfg(test)]
-mod tests;

@@ -20,6 +20,3 @@ pub use request::{DEFAULT_BUDGET, Request, RequestFault, read_request};
 pub use root::Root;
 pub use source_why::SourceWhy;
 pub use status::Status;
-
-#[cfg(test)]
-mod tests;

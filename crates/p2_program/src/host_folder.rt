@@ -1,4 +1,5 @@
-ghost use Rattle.std.specs.Prelude.{◌≡◌, ◌≤◌, ◌↔◌, length, None, IfOk, IfSome, IsTrue};
+ghost use Rattle.std.specs.Fs.{metadata_mode};
+ghost use Rattle.std.specs.Prelude.{◌≡◌, ◌≤◌, ◌↔◌, bit_and, length, None, IfErr, IfOk, IfSome, IsOk, IsTrue};
 ghost use Rattle.folder_core.specs.Name.{AreRising};
 ghost use Rattle.folder_core.specs.Node.{IsNode, IsSmallAt, entries_path};
 ghost use Rattle.folder_core.specs.Path.{IsBelow};
@@ -21,15 +22,18 @@ const MOST_TARGET_BYTES: usize = 4096;
 
 const PERMISSION_BITS: u32 = 0o777;
 
+/// The bits that change as whom a file runs, and the one that holds it in memory. A node can't tell them.
+const SPECIAL_BITS: u32 = 0o7000;
+
 /// A folder of the host: what stands at its root and below.
 ///
 /// A root that isn't there reads as an empty directory, and the first `set` makes it, with what is missing above it. The
 /// root itself may be a link to a directory. No other link is followed: below a link there is nothing.
 ///
 /// Each error of the host is a fault, but for want of memory before the first change. So are a name that is no `Name`, a
-/// special file, a file that is longer than its path allows, a link whose target isn't UTF-8, a root where another node
-/// stands, and a root with no text. The host makes no link with an empty target, and reads a file only where its mode
-/// lets this user.
+/// special file, a file that is longer than its path allows or whose mode has a bit above 0777, a link whose target isn't
+/// UTF-8, a root where another node stands, and a root with no text. The host makes no link with an empty target, and
+/// reads a file only where its mode lets this user.
 #[derive(Drop)]
 pub struct HostFolder<R> {
     runtime: R,
@@ -122,11 +126,24 @@ fn read_node<R: Files>(
     ensures node { IfOk result IsNode }
     ensures small { IfOk result (IsSmallAt path.now) }
 {
-    let mode = (found.permissions().mode() & PERMISSION_BITS) as u16;
+    let mode = mode_of(found)?;
     match read_file(files, alloc, text, most_bytes(path))? {
         Some(blob) => Ok(Node::File { mode, blob }),
         None => Err(HostFault::Failed),
     }
+}
+
+/// The mode of a file, which has to be no more than its permissions.
+fn mode_of(found: &Metadata) -> Result<u16, HostFault>
+    ensures mode { IfOk result (λ mode. mode ≡ bit_and (metadata_mode found.now) 0o777) }
+    ensures only { IsOk result ↔ bit_and (metadata_mode found.now) 0o7000 ≡ 0 }
+    ensures cause { IfErr result (λ e. e ≡ HostFault.Failed) }
+{
+    let mode = found.permissions().mode();
+    if mode & SPECIAL_BITS != 0 {
+        return Err(HostFault::Failed);
+    }
+    Ok((mode & PERMISSION_BITS) as u16)
 }
 
 fn read_target<R: Files>(files: &R, alloc: Global, text: &str) -> Result<Text, HostFault>

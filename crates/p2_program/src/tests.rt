@@ -5,7 +5,8 @@ use crate::host_tree::HostTree;
 use folder_core::{Blob, Folder, FolderError, Name, Node, Path, Tree, TreeError};
 use osgi_version::{List, NoMemory, Text};
 use std::alloc::Global;
-use std::os::unix::fs::symlink;
+use std::fs::Permissions;
+use std::os::unix::fs::{PermissionsExt, symlink};
 use std::test::Fail;
 use std::{env, fs, process};
 
@@ -191,6 +192,26 @@ fn folder_refuses(rt: HostRuntime) -> Result<(), Fail> {
     for (root, at) in [("/dev", "null"), ("/dev/null", ""), ("", ""), ("", "a")] {
         assert!(rt; look_fails(rt, root, at)?, "{root}/{at}");
     }
+    Ok(())
+}
+
+/// Whether a file of this mode can't be told.
+fn mode_fails(rt: HostRuntime, root: &str, mode: u32) -> Result<bool, Fail> {
+    let file = format!(in rt.alloc(); "{root}/f")?;
+    fs::set_permissions(&rt, file.as_str(), Permissions::from_mode(mode))?;
+    look_fails(rt, root, "f")
+}
+
+/// A node has permissions and no other bit, so a mode that has one is a fault.
+#[test]
+fn special_modes_are_refused(rt: HostRuntime) -> Result<(), Fail> {
+    let room = room(rt, "special_modes")?;
+    fs::create_dir(&rt, room.as_str())?;
+    fs::write(&rt, format!(in rt.alloc(); "{room}/f")?, "abc")?;
+    for (mode, fails) in [(0o4644, true), (0o1644, true), (0o644, false)] {
+        assert!(rt; mode_fails(rt, room.as_str(), mode)? == fails, "{mode}");
+    }
+    fs::remove_dir_all(&rt, room.as_str())?;
     Ok(())
 }
 

@@ -1,8 +1,10 @@
 -- The nodes of the first install, put into an empty folder.
 use Rattle.std.proofs.Common.{◌≡◌, ℕ, zero, suc, ◌-◌, ◌≤◌, true, List, [], ◌∷◌, length, take, Option, Some, None, nat_eq, refl, sym, ap, ◌∙◌, subst, lit≤, arith, eq-eqb}
 use mathlib.Core.Path.{fun_ext}
+use Rattle.std.specs.Prelude.{Contains}
 use Rattle.std.specs.Cmp.Lexicographic.{pointwise}
 use Rattle.std.proofs.lemmas.List.{length-take-le}
+use Rattle.folder_core.specs.Crash.{IsImage}
 use Rattle.folder_core.specs.Folder.{Told, Map, IsFormed}
 use Rattle.folder_core.specs.Path.{parent}
 use Rattle.folder_core.specs.Step.{OnTold, Step}
@@ -11,6 +13,7 @@ use Rattle.folder_core.specs.declared.node.Node.{Node}
 use Rattle.folder_core.specs.declared.node.Node.TheVariants.{Dir}
 use Rattle.unit_model.specs.declared.unit.Unit.{Unit}
 use Rattle.director_core.specs.Answer.{first_text}
+use Rattle.director_core.specs.Durable.{IsDurable}
 use Rattle.director_core.specs.FirstInstall.{first_touches}
 use Rattle.director_core.specs.Laid.{bare, IsBare, laid, CanLay, AreNodes}
 
@@ -120,9 +123,16 @@ put_leaves (Some s) (Some t) None touches profile unit e formed is_bare p q = ab
 put_leaves (Some s) (Some t) (Some u) touches profile unit e formed is_bare p q =
     q ∙ (p ∙ (ap (λ (ts : List Touch). laid ts s.now) e ∙ laid_first s.now profile unit formed is_bare))
 
--- what a sync leaves
-pub synced_now : (a b : Option Told) → Step a b (λ s t. t.synced ≡ s.now) → Step a b (λ s t. t.now ≡ s.now) → OnTold b (λ t. t.synced ≡ t.now)
-synced_now None None p q = tt
-synced_now None (Some t) p q = absurd p
-synced_now (Some s) None p q = tt
-synced_now (Some s) (Some t) p q = p ∙ sym q
+-- a crash after a sync leaves what stands now
+synced_image : (s t : Told) (m : Map) → t.synced ≡ s.now → t.touched ≡ [] → t.now ≡ s.now → IsImage t m → m ≡ t.now
+synced_image s t m synced settled stays image =
+    fun_ext (λ path. image.untouched path (λ has. no_place path (subst (λ l. Contains l path) settled has)) ∙ ap (λ (f : Map). f path) (synced ∙ sym stays))
+  where
+    no_place : (path : List (List ℕ)) → ¬ (Contains [] path)
+    no_place path (n, below, at) = omega arith
+
+pub durable_now : (a b : Option Told) → Step a b (λ s t. t.synced ≡ s.now) → Step a b (λ s t. t.touched ≡ []) → Step a b (λ s t. t.now ≡ s.now) → OnTold b IsDurable
+durable_now None None p q r = tt
+durable_now None (Some t) p q r = absurd p
+durable_now (Some s) None p q r = tt
+durable_now (Some s) (Some t) p q r = λ m. synced_image s t m p q r

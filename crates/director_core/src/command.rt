@@ -5,7 +5,7 @@ ghost use Rattle.director_words.specs.declared.status.Status.{Status};
 ghost use Rattle.director_words.specs.declared.status.Status.TheVariants as status;
 ghost use Rattle.director_core.specs.Answer.{IsAsked, IsAnswer, IsPlainAnswer, IsAnswerOrFault, IsUsageOrFault, Leaves};
 ghost use Rattle.director_core.specs.Causes.{HasCauses};
-ghost use Rattle.director_core.specs.Durable.{OnCommitted};
+ghost use Rattle.director_core.specs.Durable.{IsDurable, OnCommitted};
 ghost use Rattle.director_core.specs.Performs.{Adds};
 ghost use Rattle.director_core.specs.Printed.{Prints};
 
@@ -45,8 +45,8 @@ pub fn run<F: Folder, T: Tree, I: Input, K: Sink>(
     ensures prints { Step (K.told out.old) (K.told out.new) (λ before now. OnTold (F.told folder.old) (λ s. OnTold (T.told source.old)
         (λ files. Adds (Prints words.now s.now files result) before now))) }
 
-    // A state that is committed has been synced, and so has all that stands in the folder.
-    ensures durable { OnCommitted result (OnTold (F.told folder.new) (λ t. t.synced ≡ t.now)) }
+    // Where a state is committed, a crash leaves exactly what stands in the folder.
+    ensures durable { OnCommitted result (OnTold (F.told folder.new) IsDurable) }
 
     // A fault is told only where its object failed in this call.
     ensures causes { HasCauses (Rose (F.faults folder.old) (F.faults folder.new)) (Rose (T.faults source.old) (T.faults source.new))

@@ -2,7 +2,7 @@ ghost use Rattle.std.specs.Prelude.{◌≡◌, ◌≤◌, ◌++◌, IfOk, IfErr,
 ghost use Rattle.osgi_version.specs.VersionText.{IsVersion};
 ghost use Rattle.folder_core.specs.Cause.{Rose};
 ghost use Rattle.folder_core.specs.Step.{OnTold, Step};
-ghost use Rattle.director_core.specs.Durable.{OnPerformed};
+ghost use Rattle.director_core.specs.Durable.{IsDurable, OnPerformed};
 ghost use Rattle.director_core.specs.Laid.{IsBare};
 ghost use Rattle.director_core.specs.Performs.{Fails, LeavesPerformed, PrintsPerformed, Adds};
 ghost use Rattle.director_core.specs.Planned.{IsReady};
@@ -29,7 +29,7 @@ pub(crate) fn perform<F: Folder, K: Sink>(
     ensures failed { IfErr result (Fails (Rose (F.faults folder.old) (F.faults folder.new)) (Rose (K.faults out.old) (K.faults out.new))) }
     ensures leaves { Step (F.told folder.old) (F.told folder.new)
         (λ s t. LeavesPerformed plan.now.profile plan.now.unit s.now result t.now) }
-    ensures synced { OnPerformed result (OnTold (F.told folder.new) (λ t. t.synced ≡ t.now)) }
+    ensures durable { OnPerformed result (OnTold (F.told folder.new) IsDurable) }
     ensures prints { Step (K.told out.old) (K.told out.new)
         (Adds (PrintsPerformed plan.now.profile plan.now.unit result)) }
     ensures later_folder { F.faults folder.old ≤ F.faults folder.new }
@@ -63,7 +63,7 @@ fn put<F: Folder>(alloc: Global, folder: &mut F, plan: &Plan) -> Result<(), Stat
     requires ready { IsReady plan.now }
     requires bare { OnTold (F.told folder.old) (λ s. IsBare s.now) }
     ensures failed { IfErr result (Fails (Rose (F.faults folder.old) (F.faults folder.new)) ⊥) }
-    ensures synced { OnOk result (OnTold (F.told folder.new) (λ t. t.synced ≡ t.now)) }
+    ensures durable { OnOk result (OnTold (F.told folder.new) IsDurable) }
     ensures leaves { Step (F.told folder.old) (F.told folder.new)
         (λ s t. LeavesPerformed plan.now.profile plan.now.unit s.now result t.now) }
     ensures later { F.faults folder.old ≤ F.faults folder.new }

@@ -2,6 +2,7 @@ use Rattle.std.proofs.Common.{◌≡◌}
 use Rattle.folder_core.specs.Cause.{Rose}
 use Rattle.director_words.specs.declared.status.Status.{Status}
 use Rattle.director_core.specs.Answer.{IsAsked}
+use Rattle.director_core.specs.Durable.{IsDurable}
 use Rattle.folder_core.specs.Step.{OnTold}
 use Rattle.director_core.proofs.Endings.{stopped_uncommitted, failed_committed}
 use Rattle.director_core.proofs.Commands.{stopped_answer, stopped_only, stopped_stays, stopped_printed, done_only, failed_printed}
@@ -54,15 +55,15 @@ returns-clause-durable g c =
     let asked : Type 0 = IsAsked c.args.words.now in
     stopped_uncommitted
     (asked → ⊥) (asked × Rose (g.F.Folder.faults c.args.folder.now) (g.F.Folder.faults c.decide.new.folder)) (asked × Rose (g.T.Tree.faults c.args.source.now) (g.T.Tree.faults c.decide.new.source)) (λ (s : Status). asked)
-    (Rose (g.K.Sink.faults c.args.out.now) (g.K.Sink.faults c.refuse-in-Err.new.out)) (OnTold (g.F.Folder.told c.decide.new.folder) (λ t. t.synced ≡ t.now)) c.in-Err.status c.refuse-in-Err.result
+    (Rose (g.K.Sink.faults c.args.out.now) (g.K.Sink.faults c.refuse-in-Err.new.out)) (OnTold (g.F.Folder.told c.decide.new.folder) IsDurable) c.in-Err.status c.refuse-in-Err.result
     c.in-Err.ensures.refused c.refuse-in-Err.ensures.ends
 
 pub returns-in-Ok-clause-durable : goal.returns-in-Ok-clause-durable
 returns-in-Ok-clause-durable g c =
     failed_committed
     (Rose (g.F.Folder.faults c.decide.new.folder) (g.F.Folder.faults c.perform.new.folder)) (Rose (g.K.Sink.faults c.args.out.now) (g.K.Sink.faults c.perform.new.out))
-    (Rose (g.K.Sink.faults c.perform.new.out) (g.K.Sink.faults c.refuse.new.out)) (OnTold (g.F.Folder.told c.perform.new.folder) (λ t. t.synced ≡ t.now)) c.in-Err-perform.status c.refuse.result
-    c.in-Err-perform.ensures.failed c.refuse.ensures.ends c.in-Err-perform.ensures.synced
+    (Rose (g.K.Sink.faults c.perform.new.out) (g.K.Sink.faults c.refuse.new.out)) (OnTold (g.F.Folder.told c.perform.new.folder) IsDurable) c.in-Err-perform.status c.refuse.result
+    c.in-Err-perform.ensures.failed c.refuse.ensures.ends c.in-Err-perform.ensures.durable
 
 pub returns-in-Ok-clause-leaves : goal.returns-in-Ok-clause-leaves
 returns-in-Ok-clause-leaves g c =

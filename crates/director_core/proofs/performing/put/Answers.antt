@@ -3,7 +3,7 @@ use Rattle.folder_core.specs.Step.{OnTold}
 use Rattle.folder_core.proofs.Moments.{formed_now}
 use Rattle.folder_core.specs.declared.node.Touch.{Touch}
 use Rattle.director_core.specs.Laid.{CanLay, AreNodes}
-use Rattle.director_core.proofs.Maps.{can_lay_first, first_nodes, put_leaves, synced_now}
+use Rattle.director_core.proofs.Maps.{can_lay_first, first_nodes, put_leaves, durable_now}
 use Rattle.director_core.proofs.performing.put.Goals as goal
 
 pub lay-requires-clause-can_lay : goal.lay-requires-clause-can_lay
@@ -20,6 +20,6 @@ returns-in-Ok-sync-clause-leaves g c =
     put_leaves (g.F.Folder.told c.args.folder.now) (g.F.Folder.told c.lay.new.folder) (g.F.Folder.told c.sync.new.self) c.in_ok-touches.touches c.args.plan.now.profile c.args.plan.now.unit
     c.in_ok-touches.ensures (formed_now (g.F.Folder.told c.args.folder.now) (g.met.F.Folder.image_now c.args.folder.now)) c.requires.bare c.in-Ok.ensures.ok c.in-Ok-sync.ensures.stays
 
-pub returns-in-Ok-sync-clause-synced : goal.returns-in-Ok-sync-clause-synced
-returns-in-Ok-sync-clause-synced g c =
-    synced_now (g.F.Folder.told c.lay.new.folder) (g.F.Folder.told c.sync.new.self) c.in-Ok-sync.ensures.synced c.in-Ok-sync.ensures.stays
+pub returns-in-Ok-sync-clause-durable : goal.returns-in-Ok-sync-clause-durable
+returns-in-Ok-sync-clause-durable g c =
+    durable_now (g.F.Folder.told c.lay.new.folder) (g.F.Folder.told c.sync.new.self) c.in-Ok-sync.ensures.synced c.in-Ok-sync.ensures.settled c.in-Ok-sync.ensures.stays

@@ -72,6 +72,14 @@ impl From<io::Error> for HostFault {
     }
 }
 
+impl From<Failed> for HostFault {
+    ghost from_gives = { λ _ e. e ≡ host_fault.Failed };
+
+    fn from(_error: Failed) -> HostFault {
+        HostFault::Failed
+    }
+}
+
 impl From<NoMemory> for HostFault {
     ghost from_gives = { λ _ e. e ≡ host_fault.NoMemory };
 

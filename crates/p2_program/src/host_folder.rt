@@ -7,7 +7,7 @@ ghost use Rattle.folder_core.specs.Path.{IsBelow};
 use crate::faults::{Faults, HostFault};
 use crate::host_place::{below, find};
 use crate::host_read::{read_file, read_names};
-use crate::host_write::{make_root, put};
+use crate::host_write::{put, put_first};
 use folder_core::{Failed, Folder, FolderError, Name, Node, Path};
 use osgi_version::{List, Text};
 use std::alloc::Global;
@@ -30,8 +30,9 @@ const SPECIAL_BITS: u32 = 0o7000;
 /// A root that isn't there reads as an empty directory, and the first `set` makes it, with what is missing above it. The
 /// root itself may be a link to a directory. No other link is followed: below a link there is nothing.
 ///
-/// Each error of the host is a fault, but for want of memory before the first change. So are a name that is no `Name`, a
-/// special file, a file that is longer than its path allows or whose mode has a bit above 0777, a link whose target isn't
+/// Each error of the host is a fault, but for want of memory, which is told as such where nothing has been changed: in a
+/// `set` only before its first change, and not where the root has to be made. So are a name that is no `Name`, a special
+/// file, a file that is longer than its path allows or whose mode has a bit above 0777, a link whose target isn't
 /// UTF-8, a root where another node stands, and a root with no text. The host makes no link with an empty target, and
 /// reads a file only where its mode lets this user.
 #[derive(Drop)]
@@ -205,16 +206,15 @@ fn set_at<R: Files + AllocGlobal>(
     let Some((name, holders)) = path.names().items().split_last() else {
         return Err(HostFault::Failed);
     };
-    make_root(runtime, root)?;
     let alloc = runtime.alloc();
     let holder = find(runtime, alloc, root, holders)?;
-    if !holder.is_directory() {
+    let text = below(alloc, holder.text.as_str(), name)?;
+    if holder.is_directory() {
+        return put(runtime, holder.text.as_str(), text.as_str(), node);
+    }
+    // Of what is missing only the root is made.
+    if !holders.is_empty() {
         return Err(HostFault::Failed);
     }
-    let text = below(alloc, holder.text.as_str(), name)?;
-    // From here on the host may have changed something, so that no error is a want of memory.
-    match put(runtime, holder.text.as_str(), text.as_str(), node) {
-        Ok(()) => Ok(()),
-        Err(_) => Err(HostFault::Failed),
-    }
+    Ok(put_first(runtime, root, text.as_str(), node)?)
 }

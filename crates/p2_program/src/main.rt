@@ -2,6 +2,8 @@
 #![tactic(auto)]
 
 ghost use Rattle.std.specs.Prelude.{◌≡◌};
+ghost use Rattle.std.specs.Process.{exit_status};
+ghost use Rattle.director_words.specs.Status.{code_of};
 
 mod arguments;
 mod faults;
@@ -16,7 +18,7 @@ mod std_sink;
 use arguments::{Arguments, ArgumentsFault};
 use director_core::run;
 use director_words::{Status, short_line};
-use folder_core::After;
+use folder_core::{After, Sink};
 use host_folder::HostFolder;
 use host_tree::HostTree;
 use std::process::ExitCode;
@@ -29,22 +31,33 @@ fn main(rt: HostRuntime) -> ExitCode {
         Err(ArgumentsFault::Usage) => refused(rt, Status::Usage),
         Err(ArgumentsFault::NoMemory) => refused(rt, Status::NoMemory(After::Unchanged)),
     };
+    exit(&status)
+}
+
+/// What the process ends with.
+fn exit(status: &Status) -> ExitCode
+    ensures { exit_status result ≡ code_of status.now }
+{
     ExitCode::from(status.code())
 }
 
 /// Performs the command, which prints its own lines.
 fn perform(rt: HostRuntime, arguments: Arguments) -> Status {
+    let mut out = StdSink::new(rt.stdout());
+    perform_to(rt, arguments, &mut out)
+}
+
+fn perform_to<K: Sink>(rt: HostRuntime, arguments: Arguments, out: &mut K) -> Status {
     let mut folder = HostFolder::new(rt, arguments.folder);
     let mut source = HostTree::new(rt, arguments.source);
     let mut input = StdInput::new(rt.reader());
-    let mut out = StdSink::new(rt.stdout());
     run(
         rt.alloc(),
         arguments.words.as_slice(),
         &mut folder,
         &mut source,
         &mut input,
-        &mut out,
+        out,
     )
 }
 
@@ -56,6 +69,8 @@ fn refused(rt: HostRuntime, status: Status) -> Status
     status
 }
 
+#[cfg(test)]
+mod install_tests;
 #[cfg(test)]
 mod stream_tests;
 #[cfg(test)]

@@ -86,7 +86,7 @@ fn input_reaches_the_host(rt: HostRuntime) -> Result<(), Fail> {
 
 /// Words that a program is called with, one blank between them. No word where the bytes are none.
 #[derive(Clone, Copy)]
-struct Given<'a>(&'a [u8]);
+pub struct Given<'a>(pub &'a [u8]);
 
 impl Env for Given<'_> {
     fn arg(&self, i: usize, buf: &mut [u8]) -> Result<usize, FillError> {

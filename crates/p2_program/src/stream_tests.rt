@@ -5,6 +5,7 @@ use crate::tests::room;
 use folder_core::{Failed, Input, Sink};
 use std::env::{Env, FillError};
 use std::fs::File;
+use std::io::ErrorKind;
 use std::test::Fail;
 use std::{fs, io};
 
@@ -29,6 +30,38 @@ fn takes<K: Sink>(sink: &mut K, piece: &[u8], taken: Result<usize, Failed>) -> b
 fn full_takes_nothing() -> bool {
     let mut sink = StdSink::new(Full);
     takes(&mut sink, b"abc", Err(Failed)) && takes(&mut sink, b"", Ok(0))
+}
+
+/// A writer that is interrupted so often before it takes what it's given.
+#[derive(Drop)]
+struct Interrupted(u32);
+
+impl io::Write for Interrupted {
+    fn write(&mut self, buf: &[u8]) -> io::Result<usize> {
+        match self.0.checked_sub(1) {
+            Some(left) => {
+                self.0 = left;
+                Err(io::Error::from(ErrorKind::Interrupted))
+            }
+            None => Ok(buf.len()),
+        }
+    }
+
+    fn flush(&mut self) -> io::Result<()> {
+        Ok(())
+    }
+}
+
+fn is_patient(interruptions: u32, taken: Result<usize, Failed>) -> bool {
+    let mut sink = StdSink::new(Interrupted(interruptions));
+    takes(&mut sink, b"abc", taken)
+}
+
+#[test]
+fn interrupted_sink_writes_again(rt: HostRuntime) {
+    assert!(rt; is_patient(2, Ok(3)));
+    assert!(rt; is_patient(999, Ok(3)));
+    assert!(rt; is_patient(1000, Err(Failed)));
 }
 
 fn is_written(rt: HostRuntime, at: &str) -> Result<bool, Fail> {

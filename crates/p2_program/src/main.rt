@@ -75,3 +75,5 @@ mod install_tests;
 mod stream_tests;
 #[cfg(test)]
 mod tests;
+#[cfg(test)]
+mod write_tests;

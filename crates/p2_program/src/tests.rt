@@ -22,7 +22,7 @@ pub fn room(rt: HostRuntime, name: &str) -> Result<String, Fail> {
     Ok(room)
 }
 
-fn path_of(alloc: Global, text: &str) -> Result<Path, Fail> {
+pub fn path_of(alloc: Global, text: &str) -> Result<Path, Fail> {
     let text = Text::from_str(alloc, text)?;
     Ok(Path::read(alloc, &text)?.ok_or("no path")?)
 }
@@ -46,7 +46,7 @@ fn file_of(alloc: Global, mode: u16, content: &str) -> Result<Option<Node>, NoMe
 }
 
 /// The node that a row's words say: `dir`, `link TARGET`, `MODE CONTENT`. None for `none`.
-fn node_of(alloc: Global, words: &str) -> Result<Option<Node>, NoMemory> {
+pub fn node_of(alloc: Global, words: &str) -> Result<Option<Node>, NoMemory> {
     if words == "dir" {
         return Ok(Some(Node::Dir));
     }

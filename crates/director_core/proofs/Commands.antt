@@ -39,11 +39,11 @@ stopped_stays a c b words W F S G failed s r h e stays =
 
 pub stopped_printed : (a : Option Told) (b : Option Files) (o p : Option (List ℕ)) (words : List (List ℕ)) (W F S : Type 0) (G : Status → Type 0) (failed : Type 0) (s r : Status) → Stops W F S G s → Ends s r failed
     → OnTold a (λ t. OnTold b (λ files. IsAnswer words t.now files s))
-    → Step o p (Adds (WritesRefusal s r))
-    → Step o p (λ before now. OnTold a (λ t. OnTold b (λ files. Adds (Prints words t.now files r) before now)))
+    → Step o p (Adds (WritesRefusal failed s r))
+    → Step o p (λ before now. OnTold a (λ t. OnTold b (λ files. Adds (Prints failed words t.now files r) before now)))
 stopped_printed a b o p words W F S G failed s r h e answer prints =
-    step_weaker o p (Adds (WritesRefusal s r)) (λ before now. OnTold a (λ t. OnTold b (λ files. Adds (Prints words t.now files r) before now))) prints
-    (λ before now adds. both_weaker a b (λ t files. IsAnswer words t.now files s) (λ t files. Adds (Prints words t.now files r) before now) answer
+    step_weaker o p (Adds (WritesRefusal failed s r)) (λ before now. OnTold a (λ t. OnTold b (λ files. Adds (Prints failed words t.now files r) before now))) prints
+    (λ before now adds. both_weaker a b (λ t files. IsAnswer words t.now files s) (λ t files. Adds (Prints failed words t.now files r) before now) answer
     (λ t files is. (adds.0, stopped_prints words t.now files W F S G failed s r adds.0 is h e adds.1, adds.2)))
 
 -- ---- the plan was performed, or performing it gave up
@@ -55,16 +55,16 @@ done_only a b words profile unit found =
     both_weaker a b (λ t files. Installs words t.now files profile unit) (λ t files. (answer : Status) → IsPlainAnswer answer → IsAnswer words t.now files answer → IsAnswerOrFault answer Done) found
     (λ t files i. only_answer words t.now files Done (profile, unit, i))
 
-pub failed_printed : (a : Option Told) (b : Option Files) (o p q : Option (List ℕ)) (words : List (List ℕ)) (profile : List ℕ) (unit : Unit) (F K failed : Type 0) (s r : Status) → Fails F K s → Ends s r failed
+pub failed_printed : (a : Option Told) (b : Option Files) (o p q : Option (List ℕ)) (words : List (List ℕ)) (profile : List ℕ) (unit : Unit) (F K failed L : Type 0) (s r : Status) → (failed → L) → Fails F K s → Ends s r failed
     → OnTold a (λ t. OnTold b (λ files. Installs words t.now files profile unit))
     → Step o p (Adds (PrintsFailed profile unit s))
-    → Step p q (Adds (WritesRefusal s r))
-    → Step o q (λ before now. OnTold a (λ t. OnTold b (λ files. Adds (Prints words t.now files r) before now)))
-failed_printed a b o p q words profile unit F K failed s r h e found first second =
-    step_then o p q (Adds (PrintsFailed profile unit s)) (Adds (WritesRefusal s r)) (λ before now. OnTold a (λ t. OnTold b (λ files. Adds (Prints words t.now files r) before now))) first second
-    (λ before mid now f g. both_weaker a b (λ t files. Installs words t.now files profile unit) (λ t files. Adds (Prints words t.now files r) before now) found
+    → Step p q (Adds (WritesRefusal failed s r))
+    → Step o q (λ before now. OnTold a (λ t. OnTold b (λ files. Adds (Prints L words t.now files r) before now)))
+failed_printed a b o p q words profile unit F K failed L s r later h e found first second =
+    step_then o p q (Adds (PrintsFailed profile unit s)) (Adds (WritesRefusal failed s r)) (λ before now. OnTold a (λ t. OnTold b (λ files. Adds (Prints L words t.now files r) before now))) first second
+    (λ before mid now f g. both_weaker a b (λ t files. Installs words t.now files profile unit) (λ t files. Adds (Prints L words t.now files r) before now) found
     (λ t files i. (
       f.0 ++ g.0,
-      failed_prints words t.now files profile unit F K failed s r f.0 g.0 i h e f.1 g.1,
+      failed_prints words t.now files profile unit F K failed L s r f.0 g.0 later i h e f.1 g.1,
       g.2 ∙ (ap (λ (x : List ℕ). x ++ g.0) f.2 ∙ append_assoc before f.0 g.0),
     )))

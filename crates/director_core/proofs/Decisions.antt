@@ -1,12 +1,11 @@
 -- What the stages before the plan say of the answer.
-use Rattle.std.proofs.Common.{◌≡◌, ◌<◌, ◌⊎◌, ℕ, List, [], ◌∷◌, Option, Some, None, Ok, Err, refl, sym, subst}
+use Rattle.std.proofs.Common.{◌≡◌, ℕ, List, Option, Some, None, Ok, Err, refl, sym, subst}
 use Rattle.std.proofs.Common.{inl, inr, ⊎_elim}
 use Rattle.folder_core.specs.Folder.{Told, Map}
 use Rattle.folder_core.specs.Step.{OnTold, Step}
 use Rattle.folder_core.specs.Tree.{Files}
 use Rattle.folder_core.specs.declared.node.After.TheVariants.{Unchanged, Recover, Either}
 use Rattle.unit_model.specs.declared.unit.Unit.{Unit}
-use Rattle.director_words.specs.declared.limit.LimitName.TheVariants.{FileBytes}
 use Rattle.director_words.specs.declared.status.Status.{Status}
 use Rattle.director_words.specs.declared.status.Status.TheVariants.{Done, NotBuilt, Usage, SourceRefused, Unknown, FolderFault, SourceFault, SinkFault, Limit, NoMemory}
 use Rattle.director_core.specs.Answer.{IsAsked, AsksFor, HasChild, Chooses, Installs, IsAnswer}

@@ -1,5 +1,5 @@
 -- The units of a source have distinct names, so a word names one of them at most.
-use Rattle.std.proofs.Common.{◌≡◌, ◌≢◌, ◌⊎◌, inl, inr, ⊎_elim, ℕ, ◌==◌, ◌&&◌, ◌||◌, nat_le, Bool, true, false, List, [], ◌∷◌, ◌++◌, length, Contains, Option, Some, None, MatchOption, Result, Ok, Err, IfOk, if◌then◌else◌, refl, sym, ap, ◌∙◌, subst, eq-eqb}
+use Rattle.std.proofs.Common.{◌≡◌, ◌≢◌, ⊎_elim, ℕ, ◌==◌, ◌||◌, nat_le, Bool, true, false, List, [], ◌∷◌, ◌++◌, length, Contains, Option, Some, None, MatchOption, Result, Ok, Err, IfOk, if◌then◌else◌, refl, sym, ap, ◌∙◌, subst, eq-eqb}
 use Rattle.std.specs.Prelude.{⊤}
 use Rattle.std.specs.List.{list_any}
 use Rattle.std.specs.Str.{bytes_eq}
@@ -24,9 +24,9 @@ use Rattle.director_words.specs.declared.limit.LimitName.TheVariants.{Units}
 use Rattle.director_words.specs.declared.status.Status.TheVariants.{Limit}
 use Rattle.director_words.specs.Root.{DenotesRoot}
 use Rattle.director_words.proofs.Cuts.{cut_same, no_separator_within, no_slash_in_id}
-use Rattle.director_core.specs.Found.{AppliesAtFirst, IsGreatest, IsOfRoot, Finds}
+use Rattle.director_core.specs.Found.{IsGreatest, IsOfRoot, Finds}
 use Rattle.director_core.specs.Source.{◌>>=◌, Gathered, counted, described, added, with_description, with_found, gathered, nothing_gathered, description_of, SourceGives}
-use Rattle.director_core.proofs.Folders.{first_there, there_cases, none_there}
+use Rattle.director_core.proofs.Folders.{there_cases, none_there}
 
 -- No two units have one name.
 abbrev pub AreApart : List Unit → Type 0

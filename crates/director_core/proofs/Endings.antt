@@ -1,5 +1,5 @@
 -- How a command ends, from how its stages ended.
-use Rattle.std.proofs.Common.{◌≡◌, ◌≤◌, ◌⊎◌, length, arith, ℕ, List, [], ◌∷◌, ◌++◌, Option, Some, None, refl, sym, ap, ◌∙◌, subst, inl, inr, ⊎_elim}
+use Rattle.std.proofs.Common.{◌≡◌, ◌≤◌, ◌⊎◌, length, arith, ℕ, List, [], ◌∷◌, ◌++◌, Some, None, refl, sym, ap, ◌∙◌, subst, inl, inr, ⊎_elim}
 use Rattle.std.proofs.lemmas.List.{append-nil}
 use Rattle.folder_core.specs.Folder.{Map}
 use Rattle.folder_core.specs.Tree.{Files}
@@ -9,7 +9,6 @@ use Rattle.director_words.specs.declared.request.Request.TheVariants.{Install}
 use Rattle.director_words.specs.declared.limit.LimitName.{LimitName}
 use Rattle.director_words.specs.declared.limit.LimitName.TheVariants.{FileBytes}
 use Rattle.director_words.specs.declared.source_why.SourceWhy.{SourceWhy}
-use Rattle.director_words.specs.Status.{short_line_of}
 use Rattle.director_words.specs.declared.status.Status.{Status}
 use Rattle.director_words.specs.declared.status.Status.TheVariants.{Done, NotBuilt, Usage, SourceRefused, Unknown, FolderFault, SourceFault, SinkFault, Limit, NoMemory}
 use Rattle.director_words.proofs.Requests.{same_request}
@@ -19,8 +18,8 @@ use Rattle.director_core.specs.Durable.{OnCommitted}
 use Rattle.director_core.specs.Laid.{IsBare}
 use Rattle.director_core.specs.Found.{Finds}
 use Rattle.director_core.specs.Performs.{Fails, LeavesFailed, PrintsFailed}
-use Rattle.director_core.specs.Printed.{IsFront, plan_lines, refusal_lines, Prints}
-use Rattle.director_core.specs.Refuses.{Ends, WritesOrFails, WritesRefusal}
+use Rattle.director_core.specs.Printed.{IsFront, IsFaultPrinted, plan_lines, refusal_lines, Prints}
+use Rattle.director_core.specs.Refuses.{Ends, WritesOrFails, WritesWithMemory, WritesRefusal}
 use Rattle.director_core.specs.Stops.{Stops}
 use Rattle.director_core.proofs.Folders.{units_same, given_not_refused, refusal_same}
 use Rattle.director_core.proofs.Distinct.{given_apart, found_once}
@@ -292,78 +291,80 @@ failed_leaves words m files profile unit F K failed (SourceRefused folder why) r
 failed_leaves words m files profile unit F K failed (Unknown word) r new i h e l = absurd h
 failed_leaves words m files profile unit F K failed (Limit what most) r new i h e l = absurd h
 failed_leaves words m files profile unit F K failed (FolderFault Unchanged) r new i h e l = absurd h
-failed_leaves words m files profile unit F K failed (FolderFault Recover) r new i h e l = let P : Status → Type 0 = λ x. Leaves words m files x new in subst P (sym e) tt
+failed_leaves words m files profile unit F K failed (FolderFault Recover) r new i h e l = let P : Status → Type 0 = λ x. Leaves words m files x new in subst P (sym e) (profile, unit, i, l)
 failed_leaves words m files profile unit F K failed (FolderFault Either) r new i h e l = absurd h
 failed_leaves words m files profile unit F K failed SourceFault r new i h e l = absurd h
 failed_leaves words m files profile unit F K failed (SinkFault None) r new i h e l = let P : Status → Type 0 = λ x. Leaves words m files x new in subst P (sym e) l
 failed_leaves words m files profile unit F K failed (SinkFault (Some number)) r new i h e l = let P : Status → Type 0 = λ x. Leaves words m files x new in subst P (sym e) (profile, unit, i, l)
 failed_leaves words m files profile unit F K failed (NoMemory Unchanged) r new i h e l = let P : Status → Type 0 = λ x. Leaves words m files x new in subst P (sym e) l
-failed_leaves words m files profile unit F K failed (NoMemory Recover) r new i h e l = let P : Status → Type 0 = λ x. Leaves words m files x new in subst P (sym e) tt
+failed_leaves words m files profile unit F K failed (NoMemory Recover) r new i h e l = let P : Status → Type 0 = λ x. Leaves words m files x new in subst P (sym e) (profile, unit, i, l)
 failed_leaves words m files profile unit F K failed (NoMemory Either) r new i h e l = absurd h
 
 -- ---- what is printed
 
-written_or_failed : (words : List (List ℕ)) (m : Map) (files : Files) (s r : Status) (lines : List ℕ) → IsAnswer words m files s → (lines ≡ refusal_lines s → Prints words m files s lines) → WritesOrFails s r lines → Prints words m files r lines
-written_or_failed words m files s r lines a whole w =
-    let P : Status → Type 0 = λ x. Prints words m files x lines in
+-- a fault's line, where the sink failed in the whole call if it failed on the line
+fault_later : (K L : Type 0) (s : Status) (line : List ℕ) → (K → L) → IsFaultPrinted K s line → IsFaultPrinted L s line
+fault_later K L s line later w = ⊎_elim (λ p. inl p) (λ p. inr (later p.0, p.1)) w
+
+written_or_failed : (K : Type 0) (words : List (List ℕ)) (m : Map) (files : Files) (s r : Status) (lines : List ℕ) → IsAnswer words m files s → (lines ≡ refusal_lines s → Prints K words m files s lines) → WritesOrFails s r lines → Prints K words m files r lines
+written_or_failed K words m files s r lines a whole w =
+    let P : Status → Type 0 = λ x. Prints K words m files x lines in
     ⊎_elim (λ p. subst P (sym p.0) (whole p.1)) (λ p. subst P (sym p.0) (inl (s, a, p.1))) w
 
-fault_alone : (words : List (List ℕ)) (m : Map) (files : Files) (s : Status) (lines : List ℕ) → IsFront lines (short_line_of s) → (before front : List ℕ) × ((before ≡ []) ⊎ ((profile : List ℕ) × (unit : Unit) × Installs words m files profile unit × (before ≡ plan_lines profile unit))) × IsFront front (short_line_of s) × (lines ≡ before ++ front)
-fault_alone words m files s lines front = ([], lines, inl refl, front, refl)
+written_with_memory : (K : Type 0) (words : List (List ℕ)) (m : Map) (files : Files) (s r : Status) (lines : List ℕ) → IsAnswer words m files s → (lines ≡ refusal_lines s → Prints K words m files s lines) → WritesWithMemory K s r lines → Prints K words m files r lines
+written_with_memory K words m files s r lines a whole w =
+    let P : Status → Type 0 = λ x. Prints K words m files x lines in
+    ⊎_elim (λ q. written_or_failed K words m files s r lines a whole q) (λ p. subst P (sym p.0) (inl p.1)) w
 
-pub stopped_prints : (words : List (List ℕ)) (m : Map) (files : Files) (W F S : Type 0) (G : Status → Type 0) (failed : Type 0) (s r : Status) (lines : List ℕ) → IsAnswer words m files s → Stops W F S G s → Ends s r failed → WritesRefusal s r lines → Prints words m files r lines
+pub stopped_prints : (words : List (List ℕ)) (m : Map) (files : Files) (W F S : Type 0) (G : Status → Type 0) (failed : Type 0) (s r : Status) (lines : List ℕ) → IsAnswer words m files s → Stops W F S G s → Ends s r failed → WritesRefusal failed s r lines → Prints failed words m files r lines
 stopped_prints words m files W F S G failed Done r lines a h e w = absurd h
-stopped_prints words m files W F S G failed NotBuilt r lines a h e w = written_or_failed words m files NotBuilt r lines a (λ x. x) w
-stopped_prints words m files W F S G failed Usage r lines a h e w = written_or_failed words m files Usage r lines a (λ x. x) w
-stopped_prints words m files W F S G failed (SourceRefused folder why) r lines a h e w =
-    let P : Status → Type 0 = λ x. Prints words m files x lines in
-    ⊎_elim (λ q. written_or_failed words m files (SourceRefused folder why) r lines a (λ x. x) q) (λ p. subst P (sym p.0) (fault_alone words m files (NoMemory Unchanged) lines p.1)) w
-stopped_prints words m files W F S G failed (Unknown word) r lines a h e w =
-    let P : Status → Type 0 = λ x. Prints words m files x lines in
-    ⊎_elim (λ q. written_or_failed words m files (Unknown word) r lines a (λ x. x) q) (λ p. subst P (sym p.0) (fault_alone words m files (NoMemory Unchanged) lines p.1)) w
-stopped_prints words m files W F S G failed (Limit what most) r lines a h e w =
-    let P : Status → Type 0 = λ x. Prints words m files x lines in
-    ⊎_elim (λ q. written_or_failed words m files (Limit what most) r lines a (λ x. x) q) (λ p. subst P (sym p.0) (fault_alone words m files (NoMemory Unchanged) lines p.1)) w
+stopped_prints words m files W F S G failed NotBuilt r lines a h e w = written_or_failed failed words m files NotBuilt r lines a (λ x. x) w
+stopped_prints words m files W F S G failed Usage r lines a h e w = written_or_failed failed words m files Usage r lines a (λ x. x) w
+stopped_prints words m files W F S G failed (SourceRefused folder why) r lines a h e w = written_with_memory failed words m files (SourceRefused folder why) r lines a (λ x. x) w
+stopped_prints words m files W F S G failed (Unknown word) r lines a h e w = written_with_memory failed words m files (Unknown word) r lines a (λ x. x) w
+stopped_prints words m files W F S G failed (Limit what most) r lines a h e w = written_with_memory failed words m files (Limit what most) r lines a (λ x. x) w
 stopped_prints words m files W F S G failed (FolderFault Unchanged) r lines a h e w =
-    let P : Status → Type 0 = λ x. Prints words m files x lines in subst P (sym e) (fault_alone words m files (FolderFault Unchanged) lines w)
+    let P : Status → Type 0 = λ x. Prints failed words m files x lines in subst P (sym e) w
 stopped_prints words m files W F S G failed (FolderFault Recover) r lines a h e w = absurd h
 stopped_prints words m files W F S G failed (FolderFault Either) r lines a h e w = absurd h
-stopped_prints words m files W F S G failed SourceFault r lines a h e w = written_or_failed words m files SourceFault r lines a (λ x. x) w
+stopped_prints words m files W F S G failed SourceFault r lines a h e w = written_or_failed failed words m files SourceFault r lines a (λ x. x) w
 stopped_prints words m files W F S G failed (SinkFault committed) r lines a h e w = absurd h
 stopped_prints words m files W F S G failed (NoMemory Unchanged) r lines a h e w =
-    let P : Status → Type 0 = λ x. Prints words m files x lines in subst P (sym e) (fault_alone words m files (NoMemory Unchanged) lines w)
+    let P : Status → Type 0 = λ x. Prints failed words m files x lines in subst P (sym e) (inl w)
 stopped_prints words m files W F S G failed (NoMemory Recover) r lines a h e w = absurd h
 stopped_prints words m files W F S G failed (NoMemory Either) r lines a h e w = absurd h
 
-pub failed_prints : (words : List (List ℕ)) (m : Map) (files : Files) (profile : List ℕ) (unit : Unit) (F K failed : Type 0) (s r : Status) (lines more : List ℕ) → Installs words m files profile unit → Fails F K s → Ends s r failed → PrintsFailed profile unit s lines → WritesRefusal s r more → Prints words m files r (lines ++ more)
-failed_prints words m files profile unit F K failed Done r lines more i h e p w = absurd h
-failed_prints words m files profile unit F K failed NotBuilt r lines more i h e p w = absurd h
-failed_prints words m files profile unit F K failed Usage r lines more i h e p w = absurd h
-failed_prints words m files profile unit F K failed (SourceRefused folder why) r lines more i h e p w = absurd h
-failed_prints words m files profile unit F K failed (Unknown word) r lines more i h e p w = absurd h
-failed_prints words m files profile unit F K failed (Limit what most) r lines more i h e p w = absurd h
-failed_prints words m files profile unit F K failed (FolderFault Unchanged) r lines more i h e p w = absurd h
-failed_prints words m files profile unit F K failed (FolderFault Recover) r lines more i h e p w =
-    let P : Status → Type 0 = λ x. Prints words m files x (lines ++ more) in
-    subst P (sym e) (lines, more, inr (profile, unit, i, p), w, refl)
-failed_prints words m files profile unit F K failed (FolderFault Either) r lines more i h e p w = absurd h
-failed_prints words m files profile unit F K failed SourceFault r lines more i h e p w = absurd h
-failed_prints words m files profile unit F K failed (SinkFault None) r lines more i h e p w =
-    let P : Status → Type 0 = λ x. Prints words m files x (lines ++ more) in
+pub failed_prints : (words : List (List ℕ)) (m : Map) (files : Files) (profile : List ℕ) (unit : Unit) (F K failed L : Type 0) (s r : Status) (lines more : List ℕ) → (failed → L) → Installs words m files profile unit → Fails F K s → Ends s r failed → PrintsFailed profile unit s lines → WritesRefusal failed s r more → Prints L words m files r (lines ++ more)
+failed_prints words m files profile unit F K failed L Done r lines more later i h e p w = absurd h
+failed_prints words m files profile unit F K failed L NotBuilt r lines more later i h e p w = absurd h
+failed_prints words m files profile unit F K failed L Usage r lines more later i h e p w = absurd h
+failed_prints words m files profile unit F K failed L (SourceRefused folder why) r lines more later i h e p w = absurd h
+failed_prints words m files profile unit F K failed L (Unknown word) r lines more later i h e p w = absurd h
+failed_prints words m files profile unit F K failed L (Limit what most) r lines more later i h e p w = absurd h
+failed_prints words m files profile unit F K failed L (FolderFault Unchanged) r lines more later i h e p w = absurd h
+failed_prints words m files profile unit F K failed L (FolderFault Recover) r lines more later i h e p w =
+    let P : Status → Type 0 = λ x. Prints L words m files x (lines ++ more) in
+    subst P (sym e) (lines, more, (profile, unit, i, p), fault_later failed L (FolderFault Recover) more later w, refl)
+failed_prints words m files profile unit F K failed L (FolderFault Either) r lines more later i h e p w = absurd h
+failed_prints words m files profile unit F K failed L SourceFault r lines more later i h e p w = absurd h
+failed_prints words m files profile unit F K failed L (SinkFault None) r lines more later i h e p w =
+    let P : Status → Type 0 = λ x. Prints L words m files x (lines ++ more) in
     let all : lines ++ more ≡ lines = ap (λ (x : List ℕ). lines ++ x) w ∙ append-nil lines in
     let Q : List ℕ → Type 0 = λ x. IsFront x (plan_lines profile unit) in
     subst P (sym e) (inr (profile, unit, i, subst Q (sym all) p))
-failed_prints words m files profile unit F K failed (SinkFault (Some number)) r lines more i h e p w =
-    let P : Status → Type 0 = λ x. Prints words m files x (lines ++ more) in
+failed_prints words m files profile unit F K failed L (SinkFault (Some number)) r lines more later i h e p w =
+    let P : Status → Type 0 = λ x. Prints L words m files x (lines ++ more) in
     let all : lines ++ more ≡ lines = ap (λ (x : List ℕ). lines ++ x) w ∙ append-nil lines in
     subst P (sym e) (profile, unit, p.0, i, p.1, all ∙ p.2)
-failed_prints words m files profile unit F K failed (NoMemory Unchanged) r lines more i h e p w =
-    let P : Status → Type 0 = λ x. Prints words m files x (lines ++ more) in
-    subst P (sym e) (lines, more, ⊎_elim (λ x. inl x) (λ x. inr (profile, unit, i, x)) p, w, refl)
-failed_prints words m files profile unit F K failed (NoMemory Recover) r lines more i h e p w =
-    let P : Status → Type 0 = λ x. Prints words m files x (lines ++ more) in
-    subst P (sym e) (lines, more, inr (profile, unit, i, p), w, refl)
-failed_prints words m files profile unit F K failed (NoMemory Either) r lines more i h e p w = absurd h
+failed_prints words m files profile unit F K failed L (NoMemory Unchanged) r lines more later i h e p w =
+    let P : Status → Type 0 = λ x. Prints L words m files x (lines ++ more) in
+    let Q : List ℕ → Type 0 = λ x. IsFaultPrinted L (NoMemory Unchanged) (x ++ more) in
+    let line : IsFaultPrinted L (NoMemory Unchanged) more = fault_later failed L (NoMemory Unchanged) more later w in
+    subst P (sym e) (⊎_elim (λ x. inl (subst Q (sym x) line)) (λ x. inr (lines, more, (profile, unit, i, x), line, refl)) p)
+failed_prints words m files profile unit F K failed L (NoMemory Recover) r lines more later i h e p w =
+    let P : Status → Type 0 = λ x. Prints L words m files x (lines ++ more) in
+    subst P (sym e) (lines, more, (profile, unit, i, p), fault_later failed L (NoMemory Recover) more later w, refl)
+failed_prints words m files profile unit F K failed L (NoMemory Either) r lines more later i h e p w = absurd h
 
 -- ---- what is committed
 

@@ -1,21 +1,19 @@
 -- A source gives one outcome.
-use Rattle.std.proofs.Common.{◌≡◌, ◌↔◌, ◌⊎◌, inl, inr, ⊎_elim, ℕ, zero, suc, ◌+◌, ◌<◌, List, [], ◌∷◌, length, get_or, Contains, Result, Ok, Err, refl, sym, ap, ◌∙◌, subst, arith}
+use Rattle.std.proofs.Common.{◌≡◌, ◌⊎◌, inl, inr, ⊎_elim, ℕ, zero, suc, ◌<◌, List, [], ◌∷◌, length, get_or, Contains, Result, Ok, Err, refl, sym, ap, ◌∙◌, subst, arith}
 use Rattle.std.specs.List.{AllByRecursion}
 use Rattle.std.specs.List.Sorted.{IsStrictlySortedBy}
 use Rattle.std.specs.Ordering.{nat_cmp, ordering_reverse}
 use Rattle.std.specs.Cmp.{IsTotalOrder}
 use Rattle.std.specs.Cmp.Lexicographic.{slice_cmp}
-use Rattle.std.specs.declared.cmp.Ordering.{Ordering}
-use Rattle.std.specs.declared.cmp.Ordering.TheVariants.{Less, Equal, Greater}
+use Rattle.std.specs.declared.cmp.Ordering.TheVariants.{Less}
 use Rattle.std.proofs.lemmas.Cmp.{nat_cmp_total, lists_total}
 use Rattle.std.proofs.lemmas.Map.Keys.{sorted_head, sorted_tail, sorted_from_all_adjacent}
-use Rattle.folder_core.specs.Name.{IsBefore, AreRising, AreThose}
+use Rattle.folder_core.specs.Name.{IsBefore, AreRising}
 use Rattle.folder_core.specs.Tree.{Files}
 use Rattle.unit_model.specs.declared.unit.Unit.{Unit}
 use Rattle.inf_reader.proofs.ReadingLemmas.{readings_once}
-use Rattle.inf_reader.specs.Readings.{Readings}
 use Rattle.director_words.specs.declared.status.Status.{Status}
-use Rattle.director_core.specs.Source.{IsChild, AreFolders, source_units, SourceGives}
+use Rattle.director_core.specs.Source.{AreFolders, source_units, SourceGives}
 
 -- ---- elements
 

@@ -5,10 +5,12 @@ pub mod Distinct
 pub mod Folders
 pub mod GatherSteps
 pub mod Gatherings
+pub mod Layings
 pub mod LookUps
 pub mod LookUpSteps
 pub mod Maps
 pub mod Names
+pub mod Reports
 pub mod Roots
 pub mod RunSteps
 pub mod Steps

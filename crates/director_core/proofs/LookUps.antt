@@ -1,8 +1,7 @@
 -- Looking units up, one after the other.
-use Rattle.std.proofs.Common.{◌≡◌, ◌≢◌, ◌↔◌, ◌⊎◌, inl, inr, ⊎_elim, ℕ, Bool, true, false, IsTrue, IfSome, List, [], ◌∷◌, ◌++◌, Contains, Option, Some, None, MatchOption, refl, sym, ap, ◌∙◌, subst}
+use Rattle.std.proofs.Common.{◌≡◌, ⊎_elim, ℕ, IfSome, List, [], ◌∷◌, ◌++◌, Contains, Option, Some, None, MatchOption, refl, sym, ap, ◌∙◌, subst}
 use Rattle.std.specs.Ordering.{ordering_reverse}
-use Rattle.std.specs.declared.cmp.Ordering.{Ordering}
-use Rattle.std.specs.declared.cmp.Ordering.TheVariants.{Less, Equal, Greater}
+use Rattle.std.specs.declared.cmp.Ordering.TheVariants.{Less, Greater}
 use Rattle.std.proofs.lemmas.List.Elements.{Contains-append_cases, Contains-append_left, Contains-append_right}
 use Rattle.osgi_version.specs.VersionOrder.{version_cmp}
 use Rattle.osgi_version.specs.declared.version.Version.{Version}
@@ -11,7 +10,7 @@ use Rattle.unit_model.specs.declared.unit.Unit.{Unit}
 use Rattle.director_words.specs.declared.root.Root.{Root}
 use Rattle.director_words.specs.Root.{DenotesRoot}
 use Rattle.director_core.specs.Found.{IsGreatest, IsOfRoot, Finds, FindsNone}
-use Rattle.director_core.specs.LookUp.{IsNamed, IsCandidate, IsAbove, IsBest, IsFoundBy}
+use Rattle.director_core.specs.LookUp.{IsCandidate, IsAbove, IsBest, IsFoundBy}
 use Rattle.director_core.proofs.Folders.{first_there, there_cases, none_there}
 use Rattle.director_core.proofs.Distinct.{root_once}
 

@@ -1,5 +1,6 @@
 -- What a command leaves where its plan could not be performed to its end, and why it was told so.
-use Rattle.std.proofs.Common.{◌≡◌, ℕ, ⊎_elim, List, Option, Some, None, sym, subst}
+use Rattle.std.proofs.Common.{◌≡◌, ◌≤◌, ℕ, inl, inr, ⊎_elim, List, Option, Some, None, sym, subst, arith}
+use Rattle.folder_core.specs.Cause.{Rose}
 use Rattle.folder_core.specs.Folder.{Told, Map}
 use Rattle.folder_core.specs.Step.{OnTold, Step}
 use Rattle.folder_core.specs.Tree.{Files}
@@ -32,6 +33,10 @@ failed_stays (Some t) (Some u) (Some v) (Some files) words profile unit F K fail
     failed_leaves words t.now files profile unit F K failed s r v.now found h e (subst P same left)
 
 -- ---- why
+
+-- a fault in a later part of a call is one of the call
+pub rose_later : (a b c : ℕ) → a ≤ b → Rose b c → Rose a c
+rose_later a b c le rose = ⊎_elim (λ up. inl (omega (arith, le, up))) (λ last. inr last) rose
 
 -- a status that has no cause of its own
 ended_shortly : (F S K : Type 0) (s r : Status) → HasCauses F S K s → EndsOrFails s r K → HasCauses F S K r

@@ -13,7 +13,7 @@ use Rattle.director_words.specs.declared.limit.LimitName.TheVariants.{FileBytes}
 use Rattle.director_core.specs.Built.{IsBuilt}
 use Rattle.director_core.specs.FirstInstall.{first_state, first_touches}
 use Rattle.director_core.specs.Found.{Finds, FindsNone}
-use Rattle.director_core.specs.Laid.{IsBare, bare, laid}
+use Rattle.director_core.specs.Laid.{IsBare, IsBegun, SameElsewhere, bare, laid}
 use Rattle.director_core.specs.Source.{SourceGives}
 use Rattle.director_core.specs.StateText.{state_text}
 
@@ -121,13 +121,24 @@ abbrev pub HasInstalled : List (List ℕ) → Map → Files → Map → Type 0
 HasInstalled words old files new =
     (profile : List ℕ) × (unit : Unit) × Installs words old files profile unit × (new ≡ laid (first_touches profile unit) bare)
 
+-- The folder holds a front of the first install, which lacks the last node, the one that commits it, and nothing else.
+abbrev pub HasBegun : List (List ℕ) → Map → Files → Map → Type 0
+HasBegun words old files new =
+    (profile : List ℕ) × (unit : Unit) × Installs words old files profile unit × IsBegun (first_touches profile unit) bare new
+
+-- At each path that the first install doesn't put, the folder is as it was.
+abbrev pub IsKeptElsewhere : List (List ℕ) → Map → Files → Map → Type 0
+IsKeptElsewhere words old files new =
+    (profile : List ℕ) × (unit : Unit) × Installs words old files profile unit
+    × SameElsewhere (first_touches profile unit) old new
+
 -- what the folder holds then
 abbrev pub Leaves : List (List ℕ) → Map → Files → Status → Map → Type 0
 Leaves words old files Done new = HasInstalled words old files new
 Leaves words old files (SinkFault (Some number)) new = HasInstalled words old files new
 -- a recovery has to follow
-Leaves words old files (FolderFault Recover) new = ⊤
-Leaves words old files (NoMemory Recover) new = ⊤
+Leaves words old files (FolderFault Recover) new = IsKeptElsewhere words old files new
+Leaves words old files (NoMemory Recover) new = HasBegun words old files new
 Leaves words old files (FolderFault Unchanged) new = new ≡ old
 Leaves words old files (FolderFault Either) new = ⊥
 Leaves words old files (NoMemory Unchanged) new = new ≡ old

@@ -1,4 +1,4 @@
-use Rattle.std.specs.Prelude.{◌≡◌, false, List, [], None}
+use Rattle.std.specs.Prelude.{◌≡◌, false, [], None}
 use Rattle.unit_model.specs.declared.unit.Unit.{Unit}
 
 -- The unit has no part beyond its name, its update and its provided capabilities.

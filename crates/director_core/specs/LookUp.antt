@@ -1,5 +1,5 @@
 -- How units are looked up, one after the other. Clauses of private functions alone cite this.
-use Rattle.std.specs.Prelude.{◌≡◌, ◌≢◌, ℕ, List, Option, Some, None, Contains, IfSome, IsSomeAnd}
+use Rattle.std.specs.Prelude.{◌≡◌, ℕ, List, Option, Some, None, Contains}
 use Rattle.osgi_version.specs.VersionOrder.{version_cmp}
 use Rattle.osgi_version.specs.declared.version.Version.{Version}
 use Rattle.std.specs.declared.cmp.Ordering.TheVariants.{Greater}

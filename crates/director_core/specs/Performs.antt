@@ -7,7 +7,7 @@ use Rattle.director_words.specs.Lines.{done_line_of}
 use Rattle.director_words.specs.declared.status.Status.{Status}
 use Rattle.director_words.specs.declared.status.Status.TheVariants.{Done, NotBuilt, Usage, SourceRefused, Unknown, FolderFault, SourceFault, SinkFault, Limit, NoMemory}
 use Rattle.director_core.specs.FirstInstall.{first_touches}
-use Rattle.director_core.specs.Laid.{bare, laid}
+use Rattle.director_core.specs.Laid.{IsBegun, SameElsewhere, bare, laid}
 use Rattle.director_core.specs.Printed.{IsFront, plan_lines}
 
 -- Why it gave up.
@@ -31,9 +31,9 @@ Fails FolderFailed SinkFailed SourceFault = ⊥
 -- what stands in the folder after that
 abbrev pub LeavesFailed : List ℕ → Unit → Map → Status → Map → Type 0
 LeavesFailed profile unit old (SinkFault (Some number)) new = new ≡ laid (first_touches profile unit) bare
-LeavesFailed profile unit old (FolderFault after) new = ⊤
-LeavesFailed profile unit old (NoMemory Recover) new = ⊤
-LeavesFailed profile unit old (NoMemory Either) new = ⊤
+LeavesFailed profile unit old (FolderFault after) new = SameElsewhere (first_touches profile unit) old new
+LeavesFailed profile unit old (NoMemory Recover) new = IsBegun (first_touches profile unit) bare new
+LeavesFailed profile unit old (NoMemory Either) new = ⊥
 LeavesFailed profile unit old (NoMemory Unchanged) new = new ≡ old
 LeavesFailed profile unit old (SinkFault None) new = new ≡ old
 LeavesFailed profile unit old Done new = new ≡ old

@@ -1,10 +1,9 @@
 -- How a refusal ends, once its lines are written.
 use Rattle.std.specs.Prelude.{◌≡◌, ℕ, List, [], None, ◌⊎◌}
 use Rattle.folder_core.specs.declared.node.After.TheVariants.{Unchanged}
-use Rattle.director_words.specs.Status.{short_line_of}
 use Rattle.director_words.specs.declared.status.Status.{Status}
 use Rattle.director_words.specs.declared.status.Status.TheVariants.{Done, NotBuilt, Usage, SourceRefused, Unknown, FolderFault, SourceFault, SinkFault, Limit, NoMemory}
-use Rattle.director_core.specs.Printed.{IsFront, refusal_lines}
+use Rattle.director_core.specs.Printed.{IsFront, IsFaultPrinted, refusal_lines}
 
 -- As it is, or as a fault of the sink.
 abbrev pub EndsOrFails : Status → Status → Type 0 → Type 0
@@ -33,18 +32,18 @@ WritesOrFails status result lines =
     ((result ≡ status) × (lines ≡ refusal_lines status)) ⊎ ((result ≡ SinkFault None) × IsFront lines (refusal_lines status))
 
 -- The same, or there was no memory for them.
-abbrev pub WritesWithMemory : Status → Status → List ℕ → Type 0
-WritesWithMemory status result lines =
-    WritesOrFails status result lines ⊎ ((result ≡ NoMemory Unchanged) × IsFront lines (short_line_of (NoMemory Unchanged)))
+abbrev pub WritesWithMemory : (SinkFailed : Type 0) → Status → Status → List ℕ → Type 0
+WritesWithMemory SinkFailed status result lines =
+    WritesOrFails status result lines ⊎ ((result ≡ NoMemory Unchanged) × IsFaultPrinted SinkFailed (NoMemory Unchanged) lines)
 
-abbrev pub WritesRefusal : Status → Status → List ℕ → Type 0
-WritesRefusal Done result lines = lines ≡ []
-WritesRefusal NotBuilt result lines = WritesOrFails NotBuilt result lines
-WritesRefusal Usage result lines = WritesOrFails Usage result lines
-WritesRefusal (SourceRefused folder why) result lines = WritesWithMemory (SourceRefused folder why) result lines
-WritesRefusal (Unknown word) result lines = WritesWithMemory (Unknown word) result lines
-WritesRefusal (Limit what most) result lines = WritesWithMemory (Limit what most) result lines
-WritesRefusal (FolderFault after) result lines = IsFront lines (short_line_of (FolderFault after))
-WritesRefusal SourceFault result lines = WritesOrFails SourceFault result lines
-WritesRefusal (SinkFault committed) result lines = lines ≡ []
-WritesRefusal (NoMemory after) result lines = IsFront lines (short_line_of (NoMemory after))
+abbrev pub WritesRefusal : (SinkFailed : Type 0) → Status → Status → List ℕ → Type 0
+WritesRefusal SinkFailed Done result lines = lines ≡ []
+WritesRefusal SinkFailed NotBuilt result lines = WritesOrFails NotBuilt result lines
+WritesRefusal SinkFailed Usage result lines = WritesOrFails Usage result lines
+WritesRefusal SinkFailed (SourceRefused folder why) result lines = WritesWithMemory SinkFailed (SourceRefused folder why) result lines
+WritesRefusal SinkFailed (Unknown word) result lines = WritesWithMemory SinkFailed (Unknown word) result lines
+WritesRefusal SinkFailed (Limit what most) result lines = WritesWithMemory SinkFailed (Limit what most) result lines
+WritesRefusal SinkFailed (FolderFault after) result lines = IsFaultPrinted SinkFailed (FolderFault after) lines
+WritesRefusal SinkFailed SourceFault result lines = WritesOrFails SourceFault result lines
+WritesRefusal SinkFailed (SinkFault committed) result lines = lines ≡ []
+WritesRefusal SinkFailed (NoMemory after) result lines = IsFaultPrinted SinkFailed (NoMemory after) lines

@@ -43,7 +43,7 @@ pub fn run<F: Folder, T: Tree, I: Input, K: Sink>(
     ensures leaves { Step (F.told folder.old) (F.told folder.new) (λ s t. OnTold (T.told source.old)
         (λ files. Leaves words.now s.now files result t.now)) }
     ensures prints { Step (K.told out.old) (K.told out.new) (λ before now. OnTold (F.told folder.old) (λ s. OnTold (T.told source.old)
-        (λ files. Adds (Prints words.now s.now files result) before now))) }
+        (λ files. Adds (Prints (Rose (K.faults out.old) (K.faults out.new)) words.now s.now files result) before now))) }
 
     // Where a state is committed, a crash leaves exactly what stands in the folder.
     ensures durable { OnCommitted result (OnTold (F.told folder.new) IsDurable) }

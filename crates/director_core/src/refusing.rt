@@ -3,7 +3,7 @@ ghost use Rattle.folder_core.specs.Cause.{Rose};
 ghost use Rattle.folder_core.specs.Step.{Step};
 ghost use Rattle.director_words.specs.Status.{CanPrint, short_line_of, lines_of};
 ghost use Rattle.director_core.specs.Performs.{Adds};
-ghost use Rattle.director_core.specs.Printed.{IsFront};
+ghost use Rattle.director_core.specs.Printed.{IsFaultPrinted};
 ghost use Rattle.director_core.specs.Refuses.{Ends, EndsOrFails, EndsWithMemory, WritesRefusal, WritesOrFails, WritesWithMemory};
 
 use crate::writing::write_all;
@@ -16,7 +16,7 @@ use std::alloc::Global;
 pub(crate) fn refuse<K: Sink>(alloc: Global, out: &mut K, status: Status) -> Status
     requires { CanPrint status }
     ensures ends { Ends status result (Rose (K.faults out.old) (K.faults out.new)) }
-    ensures prints { Step (K.told out.old) (K.told out.new) (Adds (WritesRefusal status result)) }
+    ensures prints { Step (K.told out.old) (K.told out.new) (Adds (WritesRefusal (Rose (K.faults out.old) (K.faults out.new)) status result)) }
     ensures later { K.faults out.old ≤ K.faults out.new }
 {
     match status {
@@ -42,7 +42,7 @@ fn refuse_at_length<K: Sink>(alloc: Global, out: &mut K, status: Status) -> Stat
     requires printable { CanPrint status }
     requires long { short_line_of status ≡ [] }
     ensures ends { EndsWithMemory status result (Rose (K.faults out.old) (K.faults out.new)) }
-    ensures prints { Step (K.told out.old) (K.told out.new) (Adds (WritesWithMemory status result)) }
+    ensures prints { Step (K.told out.old) (K.told out.new) (Adds (WritesWithMemory (Rose (K.faults out.old) (K.faults out.new)) status result)) }
     ensures later { K.faults out.old ≤ K.faults out.new }
 {
     match lines(alloc, &status) {
@@ -70,7 +70,7 @@ fn refuse_shortly<K: Sink>(out: &mut K, status: Status) -> Status
 /// A status that stays, whether its line is written or not.
 fn report<K: Sink>(out: &mut K, status: Status) -> Status
     ensures stays { result ≡ status }
-    ensures prints { Step (K.told out.old) (K.told out.new) (Adds (λ line. IsFront line (short_line_of status))) }
+    ensures prints { Step (K.told out.old) (K.told out.new) (Adds (IsFaultPrinted (Rose (K.faults out.old) (K.faults out.new)) status)) }
     ensures later { K.faults out.old ≤ K.faults out.new }
 {
     let _ = write_all(out, short_line(&status));

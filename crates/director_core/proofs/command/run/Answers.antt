@@ -1,4 +1,3 @@
-use Rattle.std.proofs.Common.{◌≡◌}
 use Rattle.folder_core.specs.Cause.{Rose}
 use Rattle.director_words.specs.declared.status.Status.{Status}
 use Rattle.director_core.specs.Answer.{IsAsked}
@@ -6,7 +5,7 @@ use Rattle.director_core.specs.Durable.{IsDurable}
 use Rattle.folder_core.specs.Step.{OnTold}
 use Rattle.director_core.proofs.Endings.{stopped_uncommitted, failed_committed}
 use Rattle.director_core.proofs.Commands.{stopped_answer, stopped_only, stopped_stays, stopped_printed, done_only, failed_printed}
-use Rattle.director_core.proofs.RunSteps.{failed_stays, stopped_causes}
+use Rattle.director_core.proofs.RunSteps.{failed_stays, rose_later, stopped_causes}
 use Rattle.director_core.proofs.command.run.Goals as goal
 
 pub perform-requires-clause-bare : goal.perform-requires-clause-bare
@@ -47,7 +46,8 @@ returns-in-Ok-clause-prints g c =
     failed_printed (g.F.Folder.told c.args.folder.now) (g.T.Tree.told c.args.source.now) (g.K.Sink.told c.args.out.now) (g.K.Sink.told c.perform.new.out) (g.K.Sink.told c.refuse.new.out) c.args.words.now
     c.in-Ok.plan.profile c.in-Ok.plan.unit
     (Rose (g.F.Folder.faults c.decide.new.folder) (g.F.Folder.faults c.perform.new.folder)) (Rose (g.K.Sink.faults c.args.out.now) (g.K.Sink.faults c.perform.new.out))
-    (Rose (g.K.Sink.faults c.perform.new.out) (g.K.Sink.faults c.refuse.new.out)) c.in-Err-perform.status c.refuse.result
+    (Rose (g.K.Sink.faults c.perform.new.out) (g.K.Sink.faults c.refuse.new.out)) (Rose (g.K.Sink.faults c.args.out.now) (g.K.Sink.faults c.refuse.new.out)) c.in-Err-perform.status c.refuse.result
+    (rose_later (g.K.Sink.faults c.args.out.now) (g.K.Sink.faults c.perform.new.out) (g.K.Sink.faults c.refuse.new.out) c.in-Err-perform.ensures.later_sink)
     c.in-Err-perform.ensures.failed c.refuse.ensures.ends c.in-Ok.ensures.found c.in-Err-perform.ensures.prints c.refuse.ensures.prints
 
 pub returns-clause-durable : goal.returns-clause-durable

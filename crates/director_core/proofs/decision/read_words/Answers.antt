@@ -1,4 +1,4 @@
-use Rattle.std.proofs.Common.{◌≡◌, [], ◌∷◌, Result, Ok, Err, inl, inr, ◌⊎◌, sym, ◌∙◌, ap}
+use Rattle.std.proofs.Common.{◌≡◌, [], ◌∷◌, Result, Ok, Err, inl, inr, ◌⊎◌, ◌∙◌, ap}
 use Rattle.director_words.specs.declared.request.Request.{Request}
 use Rattle.director_words.specs.declared.request.Request.TheVariants.{Install}
 use Rattle.director_words.specs.declared.request.RequestFault.{RequestFault}

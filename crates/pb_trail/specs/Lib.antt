@@ -1,0 +1,4 @@
+pub mod Along
+pub mod Growth
+pub mod Rest
+pub mod Trail

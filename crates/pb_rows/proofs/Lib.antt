@@ -1,0 +1,11 @@
+pub mod AddingLaws
+pub mod AmongLaws
+pub mod CountingLaws
+pub mod DecidingLaws
+pub mod ListLaws
+pub mod NormalisingLaws
+pub mod RequirementLaws
+pub mod RootLaws
+pub mod RowsLaws
+pub mod SingletonLaws
+pub mod VariableLaws

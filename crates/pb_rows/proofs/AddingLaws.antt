@@ -1,5 +1,6 @@
 -- Rows that are added one after the other.
-use Rattle.std.proofs.Common.{◌≡◌, ℕ, ◌+◌, ◌<◌, List, [], ◌∷◌, ◌++◌, length, get_or, take, drop, map, refl, sym, ◌∙◌, ap, subst, arith, append_assoc, take-append-drop, map-append}
+use Rattle.std.proofs.Common.{◌≡◌, ℕ, ◌+◌, ◌<◌, List, [], ◌∷◌, ◌++◌, length, get_or, take, drop, map, refl, sym, ◌∙◌, ap, subst, append_assoc, take-append-drop, Result, Ok, Err}
+use Rattle.std.specs.Prelude.{OnOk, IfErr}
 use Rattle.std.specs.List.{flat_map}
 use Rattle.std.proofs.lemmas.Grind.{flat_map-append}
 use Rattle.std.proofs.lemmas.List.{append-nil, take_more, drop_more}
@@ -68,3 +69,13 @@ pub too_many_at_one : {X : Type 0} (f : X → Row) (xs : List X) (i : ℕ) (d : 
 too_many_at_one f xs i d old mid h first many =
     too_many_same _ (map f xs) old (map_is f xs)
     (too_many_at (λ x. f x ∷ []) xs i d old mid h (adds_same _ (flat_map (λ x. f x ∷ []) (take i xs)) old mid (sym (map_is f (take i xs))) first) many)
+
+-- ---- what follows of an answer
+
+pub OnOk-then : {A E : Type 0} (r : Result A E) (P Q : Type 0) → (P → Q) → OnOk r P → OnOk r Q
+OnOk-then (Ok a) P Q f p = f p
+OnOk-then (Err e) P Q f p = p
+
+pub IfErr-then : {A E : Type 0} (r : Result A E) (P Q : E → Type 0) → ((e : E) → P e → Q e) → IfErr r P → IfErr r Q
+IfErr-then (Ok a) P Q f p = p
+IfErr-then (Err e) P Q f p = f e p

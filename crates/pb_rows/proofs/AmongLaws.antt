@@ -1,8 +1,8 @@
 -- Rows have the members' variables alone, and so have their normal forms.
-use Rattle.std.proofs.Common.{◌≡◌, ℕ, suc, ◌+◌, ◌-◌, ◌*◌, ◌^◌, ◌<◌, ◌≤◌, ◌⊎◌, inl, inr, Bool, true, false, cond, eqb, leb, List, [], ◌∷◌, ◌++◌, length, get_or, map, ℤ, pos, neg_ℤ, ◌≤ℤ◌, All, refl, sym, ◌∙◌, arith}
+use Rattle.std.proofs.Common.{ℕ, ◌-◌, ◌^◌, ◌<◌, ◌≤◌, inl, inr, Bool, true, false, cond, eqb, leb, List, [], ◌∷◌, ◌++◌, length, get_or, map, pos, All, arith}
 use Rattle.std.specs.List.{flat_map, enumerate_from}
 use Rattle.std.proofs.lemmas.Int.{ints}
-use Rattle.std.proofs.lemmas.List.Elements.{All-nil, All-cons, All-head, All-tail, All-append, All-map, All-contains}
+use Rattle.std.proofs.lemmas.List.Elements.{All-nil, All-cons, All-head, All-tail, All-append, All-map}
 use Rattle.std.proofs.lemmas.List.FromFn.{length-enumerate_from, get_or-enumerate_from}
 use Rattle.std.proofs.lemmas.Option.{slice_get_within}
 use Rattle.ldap_filter.specs.EnvPairs.{EnvPair}
@@ -87,9 +87,9 @@ apart_over n id singles (first ∷ others) one other = by (eqb (length singles) 
     by false =
         All-map (IsOver n) (beside id singles) (first ∷ others)
         (λ k d h.
-            All-append (λ (t : SignedTerm). (0 < t.lit.variable) × (t.lit.variable ≤ n)) (negatives singles) (term 1 false (get_or (first ∷ others) k d) ∷ [])
-            (terms_among n 1 false singles one)
-            (All-cons (λ (t : SignedTerm). (0 < t.lit.variable) × (t.lit.variable ≤ n)) (term 1 false (get_or (first ∷ others) k d)) [] (other k d h) (All-nil (λ (t : SignedTerm). (0 < t.lit.variable) × (t.lit.variable ≤ n)))))
+        All-append (λ (t : SignedTerm). (0 < t.lit.variable) × (t.lit.variable ≤ n)) (negatives singles) (term 1 false (get_or (first ∷ others) k d) ∷ [])
+        (terms_among n 1 false singles one)
+        (All-cons (λ (t : SignedTerm). (0 < t.lit.variable) × (t.lit.variable ≤ n)) (term 1 false (get_or (first ∷ others) k d)) [] (other k d h) (All-nil (λ (t : SignedTerm). (0 < t.lit.variable) × (t.lit.variable ≤ n)))))
 
 pub rows_over : (members : List Package) (roots : List UnitName) (env : List EnvPair) → All (λ row. AreSignedAmong (length members) row.terms) (rows members roots env)
 rows_over members roots env =
@@ -121,3 +121,10 @@ moderate n h = (omega (arith, ints), omega (arith, ints))
 
 pub terms_moderate : (coef : ℕ) (truth : Bool) (vs : List ℕ) → coef < 2 ^ 32 → All (λ t. IsModerate t.coef) (map (term coef truth) vs)
 terms_moderate coef truth vs h = All-map (λ (t : SignedTerm). IsModerate t.coef) (term coef truth) vs (λ k d within. moderate coef h)
+
+pub weighed_moderate : (coef v : ℕ) (truth : Bool) (vs : List ℕ) → coef < 2 ^ 32 → All (λ t. IsModerate t.coef) (term coef false v ∷ map (term 1 truth) vs)
+weighed_moderate coef v truth vs h = All-cons (λ (t : SignedTerm). IsModerate t.coef) (term coef false v) (map (term 1 truth) vs) (moderate coef h) (terms_moderate 1 truth vs (omega arith))
+
+pub beside_moderate : (vs : List ℕ) (v : ℕ) → All (λ t. IsModerate t.coef) (map (term 1 false) vs ++ term 1 false v ∷ [])
+beside_moderate vs v =
+    All-append (λ (t : SignedTerm). IsModerate t.coef) (map (term 1 false) vs) (term 1 false v ∷ []) (terms_moderate 1 false vs (omega arith)) (terms_moderate 1 false (v ∷ []) (omega arith))

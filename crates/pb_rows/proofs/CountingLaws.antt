@@ -1,9 +1,9 @@
 -- Counting what is true, and sums of signed shares.
-use Rattle.std.proofs.Common.{◌≡◌, ℕ, zero, suc, ◌+◌, ◌<◌, ◌≤◌, Bool, true, false, cond, List, [], ◌∷◌, ◌++◌, length, get_or, map, fold, sum_by, count_by, ℤ, pos, ◌+ℤ◌, All, AllPairs, Any, refl, sym, ◌∙◌, ap, arith}
+use Rattle.std.proofs.Common.{◌≡◌, ℕ, zero, suc, ◌+◌, ◌<◌, ◌≤◌, Bool, true, false, cond, List, [], ◌∷◌, ◌++◌, length, get_or, map, fold, count_by, ℤ, pos, ◌+ℤ◌, All, Any, refl, sym, ◌∙◌, ap, arith}
 use Rattle.std.specs.List.{filter}
 use Rattle.std.proofs.lemmas.Int.{ints}
 use Rattle.std.proofs.lemmas.List.Elements.{All-head, All-tail}
-use Rattle.std.proofs.lemmas.List.Sums.{sum_by-cons, sum_by-append, get_or-le-sum_by, count_by-le-length}
+use Rattle.std.proofs.lemmas.List.Sums.{sum_by-cons, get_or-le-sum_by}
 use Rattle.pb_core.specs.Normalised.{signed_share, signed_sum}
 use Rattle.pb_core.specs.declared.literal.SignedTerm.{SignedTerm}
 use Rattle.pb_rows.specs.Rows.{term, positives, negatives}

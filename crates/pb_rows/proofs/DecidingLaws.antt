@@ -1,5 +1,5 @@
 -- What the tests on units decide.
-use Rattle.std.proofs.Common.{◌≡◌, ℕ, ◌<◌, ◌⊎◌, inl, inr, ◌&&◌, ◌||◌, Bool, true, false, IsTrue, IfSome, Option, Some, None, List, Any, refl, sym}
+use Rattle.std.proofs.Common.{◌≡◌, ◌⊎◌, ◌&&◌, Bool, true, IsTrue, IfSome, Option, Some, None, List, Any, refl}
 use Rattle.std.specs.Bool.{Decides}
 use Rattle.std.specs.List.{list_any}
 use Rattle.std.specs.Ordering.{is_lt, is_eq}
@@ -9,7 +9,7 @@ use Rattle.std.specs.declared.cmp.Ordering.TheVariants.{Less, Equal, Greater}
 use Rattle.std.proofs.lemmas.Bool.Decides.{Decides-and, Decides-or, Decides-like}
 use Rattle.std.proofs.lemmas.List.Folds.{Any-from_list_any, list_any-from_Any}
 use Rattle.std.proofs.lemmas.Slice.Eq.{bytes_eq-Decides}
-use Rattle.osgi_version.specs.Holds.{Holds, IsAboveFloor, IsBelowCeiling}
+use Rattle.osgi_version.specs.Holds.{Holds, IsBelowCeiling}
 use Rattle.osgi_version.specs.VersionOrder.{version_cmp}
 use Rattle.osgi_version.specs.declared.range.Ceiling.{Ceiling}
 use Rattle.osgi_version.specs.declared.range.Range.{Range}

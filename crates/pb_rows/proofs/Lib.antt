@@ -2,7 +2,9 @@ pub mod AddingLaws
 pub mod AmongLaws
 pub mod CountingLaws
 pub mod DecidingLaws
+pub mod LabelLaws
 pub mod ListLaws
+pub mod MakingLaws
 pub mod NormalisingLaws
 pub mod RequirementLaws
 pub mod RootLaws

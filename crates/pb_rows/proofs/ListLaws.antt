@@ -1,5 +1,5 @@
 -- What holds of each element of lists that are made of others.
-use Rattle.std.proofs.Common.{◌≡◌, ℕ, suc, ◌+◌, ◌<◌, ◌≤◌, Bool, true, false, cond, List, [], ◌∷◌, ◌++◌, length, get_or, map, All, AllPairs, Contains, ◌↔◌, refl, sym, ◌∙◌, ap, arith, length-append}
+use Rattle.std.proofs.Common.{◌≡◌, ℕ, ◌+◌, ◌<◌, Bool, true, false, cond, List, [], ◌∷◌, ◌++◌, length, map, All, AllPairs, ◌↔◌, refl, arith, length-append}
 use Rattle.std.specs.List.{filter, flat_map, enumerate_from}
 use Rattle.std.proofs.lemmas.List.{get_or_append_left, get_or-append-add, get_or-map, length-map}
 use Rattle.std.proofs.lemmas.List.Elements.{All-nil, All-cons, All-head, All-tail, All-append, All-map, All-filter}
@@ -18,8 +18,7 @@ All-right P xs ys all k d h = rw (get_or-append-add xs ys k d) at (all (length x
 pub All-flat_map : {X Y : Type 0} (P : Y → Type 0) (f : X → List Y) (Q : X → Type 0) → ((x : X) → All P (f x) ↔ Q x) → (xs : List X) → All P (flat_map f xs) ↔ All Q xs
 All-flat_map P f Q each [] = (λ all. All-nil Q, λ all. All-nil P)
 All-flat_map P f Q each (x ∷ xs) =
-    let rest = All-flat_map P f Q each xs in
-    (
+    let rest = All-flat_map P f Q each xs in (
       λ all. All-cons Q x xs ((each x).0 (All-left P (f x) (flat_map f xs) all)) (rest.0 (All-right P (f x) (flat_map f xs) all)),
       λ all. All-append P (f x) (flat_map f xs) ((each x).1 (All-head Q x xs all)) (rest.1 (All-tail Q x xs all)),
     )
@@ -73,11 +72,11 @@ All-where_true Q full (m ∷ ms) = by (All-where_true Q full ms) (full m.0) refl
     by : (All (λ (k : ℕ × Package). full k.0 ≡ true → Q k.1) ms ↔ All Q (map (λ (k : ℕ × Package). k.1) (filter (λ k. full k.0) ms))) → (b : Bool) → full m.0 ≡ b → All (λ k. full k.0 ≡ true → Q k.1) (m ∷ ms) ↔ All Q (map (λ (k : ℕ × Package). k.1) (cond b (m ∷ filter (λ k. full k.0) ms) (filter (λ k. full k.0) ms)))
     by rest true e = (
       λ all. All-cons Q m.1 (map (λ (k : ℕ × Package). k.1) (filter (λ k. full k.0) ms))
-      (All-head (λ (k : ℕ × Package). full k.0 ≡ true → Q k.1) m ms all e)
-      (rest.0 (All-tail (λ (k : ℕ × Package). full k.0 ≡ true → Q k.1) m ms all)),
+          (All-head (λ (k : ℕ × Package). full k.0 ≡ true → Q k.1) m ms all e)
+          (rest.0 (All-tail (λ (k : ℕ × Package). full k.0 ≡ true → Q k.1) m ms all)),
       λ all. All-cons (λ (k : ℕ × Package). full k.0 ≡ true → Q k.1) m ms
-      (λ t. All-head Q m.1 (map (λ (k : ℕ × Package). k.1) (filter (λ k. full k.0) ms)) all)
-      (rest.1 (All-tail Q m.1 (map (λ (k : ℕ × Package). k.1) (filter (λ k. full k.0) ms)) all)),
+          (λ t. All-head Q m.1 (map (λ (k : ℕ × Package). k.1) (filter (λ k. full k.0) ms)) all)
+          (rest.1 (All-tail Q m.1 (map (λ (k : ℕ × Package). k.1) (filter (λ k. full k.0) ms)) all)),
     )
     by rest false e = (
       λ all. rest.0 (All-tail (λ (k : ℕ × Package). full k.0 ≡ true → Q k.1) m ms all),

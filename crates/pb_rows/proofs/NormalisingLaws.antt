@@ -1,9 +1,9 @@
 -- Constraints of rows, one after the other.
-use Rattle.std.proofs.Common.{◌≡◌, ℕ, ◌+◌, ◌<◌, ◌⊎◌, inl, inr, Bool, List, [], ◌∷◌, ◌++◌, length, map, All, ◌↔◌, refl, sym, ◌∙◌, ap, subst, arith, append_assoc}
+use Rattle.std.proofs.Common.{◌≡◌, ℕ, ◌+◌, ◌<◌, inl, inr, Bool, List, [], ◌∷◌, ◌++◌, length, map, All, ◌↔◌, refl, sym, ◌∙◌, ap, subst, append_assoc}
 use Rattle.std.proofs.lemmas.List.{append-nil}
 use Rattle.std.proofs.lemmas.List.Elements.{All-nil, All-cons, All-head, All-tail}
 use Rattle.std.proofs.lemmas.List.Sums.{sum_by_push}
-use Rattle.pb_core.specs.AtLeast.{AtLeast, at_least}
+use Rattle.pb_core.specs.AtLeast.{at_least}
 use Rattle.pb_core.specs.Satisfied.{IsSatisfied, SatisfiesAll}
 use Rattle.pb_core.specs.declared.constraint.Constraint.{Constraint}
 use Rattle.pb_core.proofs.NormalLaws.{normalised_same}
@@ -18,8 +18,7 @@ constraints_hold full (row ∷ rows) constraints n = elim n [
       (λ s. All-cons (Satisfies full) row rows (left.0 full) (rest.0 s), λ all. rest.1 (All-tail (Satisfies full) row rows all))
   | inr kept ↦
       let rest = constraints_hold full rows kept.1 kept.4 in
-      let same = normalised_same row.terms row.degree (at_least kept.0) kept.3.normalised full in
-      (
+      let same = normalised_same row.terms row.degree (at_least kept.0) kept.3.normalised full in (
         λ s.
             let both : SatisfiesAll full (map at_least (kept.0 ∷ kept.1)) = rw kept.2 at s in
             All-cons (Satisfies full) row rows

@@ -1,16 +1,16 @@
 -- A member's rows are satisfied exactly where it isn't selected or each of its requirements is met: the row of what it
 -- needs is the lower bound, and the row of what it allows the upper one.
-use Rattle.std.proofs.Common.{◌≡◌, ℕ, suc, ◌+◌, ◌-◌, ◌<◌, ◌≤◌, ◌⊎◌, inl, inr, Bool, true, false, cond, eqb, leb, List, [], ◌∷◌, ◌++◌, length, get_or, map, count_by, ℤ, pos, ◌≤ℤ◌, ◌+ℤ◌, All, ◌↔◌, refl, sym, ◌∙◌, arith}
+use Rattle.std.proofs.Common.{◌≡◌, ℕ, ◌-◌, ◌<◌, ◌≤◌, inl, inr, Bool, true, false, cond, eqb, leb, List, [], ◌∷◌, ◌++◌, length, count_by, ℤ, pos, ◌≤ℤ◌, ◌+ℤ◌, All, ◌↔◌, refl, sym, ◌∙◌, arith}
 use Rattle.std.specs.Bool.{Decides}
-use Rattle.std.specs.List.{flat_map, enumerate_from}
+use Rattle.std.specs.List.{enumerate_from}
 use Rattle.std.proofs.lemmas.Bool.Decides.{nat_tests}
 use Rattle.std.proofs.lemmas.Int.{ints}
-use Rattle.std.proofs.lemmas.List.Elements.{All-nil, All-cons, All-head, All-append, All-weaker}
+use Rattle.std.proofs.lemmas.List.Elements.{All-nil, All-cons, All-head, All-append}
 use Rattle.std.proofs.lemmas.List.Sums.{count_by-le-length}
 use Rattle.ldap_filter.specs.EnvPairs.{EnvPair}
 use Rattle.unit_model.specs.Applies.{filter_true}
 use Rattle.unit_model.specs.Matches.{Matches}
-use Rattle.unit_model.specs.Met.{HasCount, HasEnough, IsMet}
+use Rattle.unit_model.specs.Met.{HasCount, IsMet}
 use Rattle.unit_model.specs.declared.required.Required.{Required}
 use Rattle.unit_model.specs.declared.unit.Unit.{Unit as Package}
 use Rattle.pb_rows.specs.Deciding.{matches}
@@ -52,8 +52,7 @@ need_holds full v row min matching = by (eqb min 0) refl
 
     least : (pos min ≤ℤ signed_sum full (term min false v ∷ positives matching)) ↔ (full v ≡ true → min ≤ count_by full matching)
     least =
-        let w = weighed full v min (signed_share full (term min false v)) (signed_sum full (positives matching)) (negative_true full min v) (negative_false full min v) (rw sum (omega (arith, ints))) in
-        (
+        let w = weighed full v min (signed_share full (term min false v)) (signed_sum full (positives matching)) (negative_true full min v) (negative_false full min v) (rw sum (omega (arith, ints))) in (
           λ h t. let reached = w.0 (rw line at h) t in omega (arith, ints, sum),
           λ f. rw line (w.1 (λ t. let reached = f t in omega (arith, ints, sum))),
         )
@@ -78,8 +77,7 @@ most_holds full v row max matching = by (leb (length matching) max) refl
 
     greatest : max < length matching → (pos (length matching - max) ≤ℤ signed_sum full (term (length matching - max) false v ∷ negatives matching)) ↔ (full v ≡ true → count_by full matching ≤ max)
     greatest many =
-        let w = weighed full v (length matching - max) (signed_share full (term (length matching - max) false v)) (signed_sum full (negatives matching)) (negative_true full (length matching - max) v) (negative_false full (length matching - max) v) (omega (arith, ints, sum, few)) in
-        (
+        let w = weighed full v (length matching - max) (signed_share full (term (length matching - max) false v)) (signed_sum full (negatives matching)) (negative_true full (length matching - max) v) (negative_false full (length matching - max) v) (omega (arith, ints, sum, few)) in (
           λ h t. let reached = w.0 (rw line at h) t in omega (arith, ints, sum),
           λ f. rw line (w.1 (λ t. let reached = f t in omega (arith, ints, sum))),
         )
@@ -137,8 +135,7 @@ required_holds full members env v m = by (filter_true env m.1.filter) refl
         let needs = need_rows v m.0 m.1.min (variables (matches m.1) members) in
         let mosts = most_rows v m.0 m.1.max (variables (matches m.1) members) in
         let need = need_holds full v m.0 m.1.min (variables (matches m.1) members) in
-        let most = most_holds full v m.0 m.1.max (variables (matches m.1) members) in
-        (
+        let most = most_holds full v m.0 m.1.max (variables (matches m.1) members) in (
           λ all t. inr (record {
             count = count_by (matches m.1) (selected full members);
             counted = HasCount-is (Matches m.1) (matches m.1) (Decides-matches m.1) (selected full members) (count_by (matches m.1) (selected full members)) refl;
@@ -150,10 +147,9 @@ required_holds full members env v m = by (filter_true env m.1.filter) refl
 
 unit_holds : (full : ℕ → Bool) (members : List Package) (env : List EnvPair) (m : ℕ × Package) → All (Satisfies full) (unit_rows members env m) ↔ (full m.0 ≡ true → All (λ r. IsMet r (selected full members) env) m.1.required)
 unit_holds full members env m =
-    let each = All-flat_map (Satisfies full) (required_rows members env m.0) (λ k. full m.0 ≡ true → IsMet k.1 (selected full members) env) (required_holds full members env m.0) (enumerate_from 1 m.1.required) in
-    (
+    let each = All-flat_map (Satisfies full) (required_rows members env m.0) (λ k. full m.0 ≡ true → IsMet k.1 (selected full members) env) (required_holds full members env m.0) (enumerate_from 1 m.1.required) in (
       λ all t. All-from_enumerate (λ r. IsMet r (selected full members) env) 1 m.1.required
-      (λ k d h. each.0 all k d h t),
+          (λ k d h. each.0 all k d h t),
       λ met. each.1 (λ k d h t. All-enumerate (λ r. IsMet r (selected full members) env) 1 m.1.required (met t) k d h),
     )
 

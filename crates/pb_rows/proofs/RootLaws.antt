@@ -1,5 +1,5 @@
 -- A root's row is satisfied exactly where a selected member has its name.
-use Rattle.std.proofs.Common.{◌≡◌, ℕ, ◌<◌, ◌≤◌, Bool, true, List, [], ◌∷◌, length, get_or, map, count_by, All, Contains, ◌↔◌, sym, ◌∙◌, ap, arith}
+use Rattle.std.proofs.Common.{◌≡◌, ℕ, ◌<◌, ◌≤◌, Bool, List, [], ◌∷◌, length, get_or, count_by, All, Contains, ◌↔◌, sym, ◌∙◌, ap, arith}
 use Rattle.std.proofs.lemmas.Int.{ints}
 use Rattle.std.proofs.lemmas.List.{get_or-map, length-map}
 use Rattle.std.proofs.lemmas.List.Elements.{All-map}
@@ -16,8 +16,7 @@ use Rattle.pb_rows.proofs.ListLaws.{All-from_map}
 
 named_from_count : (root : UnitName) (us : List Package) → 1 ≤ count_by (λ u. same_name u.name root) us → Contains (names us) root
 named_from_count root us some =
-    let a = some_counted (λ u. same_name u.name root) us some in
-    (
+    let a = some_counted (λ u. same_name u.name root) us some in (
       a.0,
       rw (length-map us (λ (u : Package). u.name)) a.2,
       get_or-map (λ (u : Package). u.name) us a.0 a.1 root a.2 ∙ (ap (λ (u : Package). u.name) a.3 ∙ (Decides-same_name a.1.name root).0 a.4),
@@ -33,8 +32,7 @@ count_from_named root (u ∷ us) c =
 root_holds : (full : ℕ → Bool) (members : List Package) (root : UnitName) → Satisfies full (root_row members root) ↔ Contains (names (selected full members)) root
 root_holds full members root =
     let sum = positives_sum full (variables (λ u. same_name u.name root) members) in
-    let cross = crossed full (λ u. same_name u.name root) (numbered members) in
-    (
+    let cross = crossed full (λ u. same_name u.name root) (numbered members) in (
       λ h. named_from_count root (selected full members) (omega (arith, ints)),
       λ c. let some = count_from_named root (selected full members) c in omega (arith, ints),
     )

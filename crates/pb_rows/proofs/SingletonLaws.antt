@@ -1,8 +1,6 @@
 -- An id's rows are satisfied exactly where at most one of its singletons is selected, and none beside another unit of
 -- the id. Where that holds of each id, no two selected members collide.
-use Rattle.std.proofs.Common.{◌≡◌, ℕ, suc, ◌+◌, ◌-◌, ◌<◌, ◌≤◌, ◌⊎◌, inl, inr, ◌&&◌, Bool, true, false, not, cond, eqb, leb, IsTrue, List, [], ◌∷◌, ◌++◌, length, get_or, map, count_by, ℤ, pos, ◌≤ℤ◌, ◌+ℤ◌, All, AllPairs, Contains, ◌↔◌, refl, sym, ◌∙◌, ap, arith}
-use Rattle.std.specs.Bool.{Decides}
-use Rattle.std.specs.List.{dedup}
+use Rattle.std.proofs.Common.{◌≡◌, ℕ, suc, ◌+◌, ◌-◌, ◌<◌, ◌≤◌, inl, inr, ◌&&◌, Bool, true, false, not, cond, eqb, leb, List, [], ◌∷◌, ◌++◌, length, get_or, map, count_by, pos, ◌+ℤ◌, All, AllPairs, Contains, ◌↔◌, refl, sym, ◌∙◌, ap, arith}
 use Rattle.std.specs.Str.{bytes_eq}
 use Rattle.std.specs.Cmp.Lexicographic.{nat_list_eq_equiv}
 use Rattle.std.proofs.lemmas.Bool.{cases_lt}
@@ -21,7 +19,7 @@ use Rattle.pb_rows.specs.Normalising.{Satisfies}
 use Rattle.pb_rows.specs.Rows.{Row, term, negatives, beside, apart_rows, id_rows, ids, singleton_rows}
 use Rattle.pb_core.specs.Normalised.{signed_share, signed_sum}
 use Rattle.pb_core.specs.declared.constraint.Origin.TheVariants as origin
-use Rattle.pb_rows.proofs.CountingLaws.{one_where_true, none_where_false, count_cons, count_yes, count_no, count_none, none_counted, count_some, count_two, crossed, signed_cons, signed_append, negatives_sum, negative_true, negative_false}
+use Rattle.pb_rows.proofs.CountingLaws.{one_where_true, none_where_false, count_yes, count_no, count_none, count_some, count_two, crossed, signed_cons, signed_append, negatives_sum, negative_true, negative_false}
 use Rattle.pb_rows.proofs.DecidingLaws.{true_from, from_true}
 use Rattle.pb_rows.proofs.ListLaws.{All-from_map, All-flat_map, All-selected}
 
@@ -238,8 +236,7 @@ each_id members k d h =
 pub singletons_hold : (full : ℕ → Bool) (members : List Package) → All (Satisfies full) (singleton_rows members) ↔ AllPairs (λ u v. ¬ (Collide u v)) (selected full members)
 singletons_hold full members =
     let rows = All-flat_map (Satisfies full) (id_rows members) (IsAloneAmong (selected full members)) (id_holds full members) (ids members) in
-    let each = All-selected (λ u. Contains (ids members) u.name.id) full members (each_id members) in
-    (
+    let each = All-selected (λ u. Contains (ids members) u.name.id) full members (each_id members) in (
       λ all. apart_from_alone (selected full members) (λ k d h. All-contains (IsAloneAmong (selected full members)) (ids members) (get_or (selected full members) k d).name.id (rows.0 all) (each k d h)),
       λ apart. rows.1 (λ k d h. alone_from_apart (get_or (ids members) k d) (selected full members) apart),
     )

@@ -1,6 +1,6 @@
 -- Which variables the members that pass a test have.
-use Rattle.std.proofs.Common.{◌≡◌, ℕ, zero, suc, ◌+◌, ◌<◌, ◌≤◌, Bool, true, false, cond, Some, List, [], ◌∷◌, length, get_or, map, All, AllPairs, Contains, ◌↔◌, refl, sym, ◌∙◌, ap, subst, arith}
-use Rattle.std.specs.List.{filter, enumerate_from, slice_get}
+use Rattle.std.proofs.Common.{◌≡◌, ℕ, zero, suc, ◌+◌, ◌<◌, ◌≤◌, Bool, true, false, cond, Some, List, [], ◌∷◌, length, get_or, map, All, AllPairs, Contains, refl, sym, ◌∙◌, ap, subst, arith}
+use Rattle.std.specs.List.{filter, slice_get}
 use Rattle.std.proofs.lemmas.Option.{slice_get-get_or, slice_get_within, get_or_from_slice_get}
 use Rattle.std.proofs.lemmas.List.{get_or-map, length-map}
 use Rattle.std.proofs.lemmas.List.Elements.{All-map, All-filter, All-contains, filter_passes}
@@ -33,9 +33,9 @@ pub each_variable : (test : Package → Bool) (members : List Package) → All (
 each_variable test members =
     All-map (IsVariableOf test members) (λ (m : ℕ × Package). m.0) (filter (λ m. test m.1) (numbered members))
     (λ k d h.
-        let pass = filter_passes (λ (m : ℕ × Package). test m.1) (numbered members) k d h in
-        let loc = All-filter (λ (m : ℕ × Package). test m.1) (IsLocated members) (numbered members) (located members) k d h in
-        record { place = loc.place; unit = (get_or (filter (λ m. test m.1) (numbered members)) k d).1; here = loc.here; passes = pass; is = loc.is })
+    let pass = filter_passes (λ (m : ℕ × Package). test m.1) (numbered members) k d h in
+    let loc = All-filter (λ (m : ℕ × Package). test m.1) (IsLocated members) (numbered members) (located members) k d h in
+    record { place = loc.place; unit = (get_or (filter (λ m. test m.1) (numbered members)) k d).1; here = loc.here; passes = pass; is = loc.is })
 
 Contains-filter : {X : Type 0} (p : X → Bool) (xs : List X) (x : X) → Contains xs x → p x ≡ true → Contains (filter p xs) x
 Contains-filter p [] x c e = absurd (omega (arith, c.1))
@@ -68,9 +68,9 @@ variables_rise test members =
     AllPairs-map (λ v w. v < w) (λ (m : ℕ × Package). m.0) (filter (λ m. test m.1) (numbered members))
     (AllPairs-filter (λ a b. a.0 < b.0) (λ (m : ℕ × Package). test m.1) (numbered members)
     (λ i j d lt h.
-        let second : j < length members = rw (length-enumerate_from 1 members) at h in
-        let first : i < length members = omega arith in
-        rw (get_or-enumerate_from 1 members i d first, get_or-enumerate_from 1 members j d second) (omega arith)))
+    let second : j < length members = rw (length-enumerate_from 1 members) at h in
+    let first : i < length members = omega arith in
+    rw (get_or-enumerate_from 1 members i d first, get_or-enumerate_from 1 members j d second) (omega arith)))
 
 -- ---- rising lists of the same numbers are one list
 

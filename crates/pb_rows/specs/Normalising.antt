@@ -1,5 +1,5 @@
 -- The constraints of rows.
-use Rattle.std.specs.Prelude.{◌≡◌, ◌⊎◌, ◌<◌, ℕ, Bool, List, [], ◌∷◌, ◌++◌, All, length, sum_by}
+use Rattle.std.specs.Prelude.{◌≡◌, ◌⊎◌, ◌<◌, ℕ, Bool, List, [], ◌∷◌, ◌++◌, length, sum_by}
 use Rattle.pb_core.specs.AtLeast.{at_least}
 use Rattle.pb_core.specs.Normal.{IsNormal, AreAmong}
 use Rattle.pb_core.specs.Normalised.{IsNormalised, IsSatisfiedSigned, AreSignedAmong}

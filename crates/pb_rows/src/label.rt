@@ -10,7 +10,13 @@ pub fn label_of(alloc: Global, name: &UnitName) -> Result<Text, NoMemory>
     ensures { IfOk result (λ text. text ≡ label name.now) }
 {
     let version = &name.version;
-    let numbers = format!(in alloc; "{}/{}.{}.{}", name.id.as_str(), version.major, version.minor, version.micro)?;
+    let numbers = format!(in alloc;
+        "{}/{}.{}.{}",
+        name.id.as_str(),
+        version.major,
+        version.minor,
+        version.micro
+    )?;
     if version.qualifier.bytes().is_empty() {
         return Text::from_str(alloc, numbers.as_str());
     }

@@ -1,6 +1,6 @@
 //! Rows for each kind of thing that is asked.
 
-ghost use Rattle.std.specs.Prelude.{◌≡◌, ◌≤◌, ◌++◌, ◌∷◌, [], ℕ, length, map, OnOk, IfOk, IfErr};
+ghost use Rattle.std.specs.Prelude.{◌≡◌, ◌≤◌, ◌++◌, ◌∷◌, [], true, false, length, map, OnOk, OnErr, IfOk, IfErr};
 ghost use Rattle.pb_rows.specs.Normalising.{Adds, AreTooMany};
 ghost use Rattle.pb_rows.specs.Rows.{term, root_row_of, need_rows, most_rows, apart_rows, beside};
 ghost use Rattle.pb_rows.specs.declared.fault.EncodeFault.TheVariants as faults;
@@ -24,11 +24,7 @@ pub fn signed(coef: u32, positive: bool, variable: u32) -> SignedTerm
 }
 
 /// Appends a literal of each variable, with the coefficient 1.
-fn append(
-    terms: &mut Vec<SignedTerm>,
-    variables: &[u32],
-    positive: bool,
-) -> Result<(), NoMemory>
+fn append(terms: &mut Vec<SignedTerm>, variables: &[u32], positive: bool) -> Result<(), NoMemory>
     ensures { OnOk result (terms.new.items ≡ terms.old.items ++ map (term 1 positive) variables.now) }
 {
     for variable in variables {
@@ -53,7 +49,7 @@ fn weighed(
     Ok(List::from_vec(terms))
 }
 
-/// What is true of none of a list but perhaps one, beside one more: a literal that each is false.
+/// A literal that each of the singletons is false, and one that the other unit's variable is.
 fn all_false(alloc: Global, singles: &[u32], other: u32) -> Result<List<SignedTerm>, NoMemory>
     ensures { IfOk result (λ terms. terms ≡ map (term 1 false) singles.now ++ term 1 false other ∷ []) }
 {
@@ -63,6 +59,7 @@ fn all_false(alloc: Global, singles: &[u32], other: u32) -> Result<List<SignedTe
     Ok(List::from_vec(terms))
 }
 
+/// A literal of each variable.
 fn literals(alloc: Global, variables: &[u32], positive: bool) -> Result<List<SignedTerm>, NoMemory>
     ensures { IfOk result (λ terms. terms ≡ map (term 1 positive) variables.now) }
 {
@@ -71,8 +68,8 @@ fn literals(alloc: Global, variables: &[u32], positive: bool) -> Result<List<Sig
     Ok(List::from_vec(terms))
 }
 
-/// Adds the row of a root, which one of the variables of the members of its name is to be true for. Without members
-/// of its name the constraint has no term.
+/// Adds the row of a root: a variable of a member of its name is true. Without such a member the constraint has no
+/// term, and nothing satisfies it. Nothing is added where the row is refused.
 pub fn add_root(
     constraints: &mut Constraints,
     root: &UnitName,
@@ -82,6 +79,7 @@ pub fn add_root(
     ensures added { OnOk result (Adds (root_row_of root.now named.now ∷ []) constraints.old constraints.new) }
     ensures too_large { IfErr result (λ e. e ≡ faults.TooLarge →
         AreTooMany (root_row_of root.now named.now ∷ []) constraints.old) }
+    ensures refused { OnErr result (constraints.new ≡ constraints.old) }
 {
     let alloc = constraints.allocator();
     let terms = literals(alloc, named, true)?;
@@ -89,7 +87,8 @@ pub fn add_root(
     constraints.push(&terms, 1, Origin::Root(label))
 }
 
-/// Adds that at least `min` of the matching variables are true where the variable is.
+/// Adds that at least `min` of the matching variables are true where the variable is. Nothing is added where the row
+/// is refused.
 pub fn add_need(
     constraints: &mut Constraints,
     variable: u32,
@@ -101,6 +100,7 @@ pub fn add_need(
     ensures added { OnOk result (Adds (need_rows variable row min matching.now) constraints.old constraints.new) }
     ensures too_large { IfErr result (λ e. e ≡ faults.TooLarge →
         AreTooMany (need_rows variable row min matching.now) constraints.old) }
+    ensures refused { OnErr result (constraints.new ≡ constraints.old) }
 {
     if min == 0 {
         return Ok(());
@@ -109,7 +109,8 @@ pub fn add_need(
     constraints.push(&terms, i64::from(min), Origin::Need { variable, row })
 }
 
-/// Adds that at most `max` of the matching variables are true where the variable is.
+/// Adds that at most `max` of the matching variables are true where the variable is. Nothing is added where the row is
+/// refused.
 pub fn add_most(
     constraints: &mut Constraints,
     variable: u32,
@@ -121,6 +122,7 @@ pub fn add_most(
     ensures added { OnOk result (Adds (most_rows variable row max matching.now) constraints.old constraints.new) }
     ensures too_large { IfErr result (λ e. e ≡ faults.TooLarge →
         AreTooMany (most_rows variable row max matching.now) constraints.old) }
+    ensures refused { OnErr result (constraints.new ≡ constraints.old) }
 {
     let count = matching.len() as u32;
     if count <= max {
@@ -131,7 +133,8 @@ pub fn add_most(
     constraints.push(&terms, i64::from(excess), Origin::Most { variable, row })
 }
 
-/// Adds that at most one of the singletons of an id is true, and none beside another unit of the id.
+/// Adds that at most one of the singletons of an id is true, and none beside another unit of the id. Where a row is
+/// refused, those before it may have been added.
 pub fn add_apart(
     constraints: &mut Constraints,
     id: &Text,
@@ -155,11 +158,7 @@ pub fn add_apart(
     Ok(())
 }
 
-fn add_alone(
-    constraints: &mut Constraints,
-    id: &Text,
-    singles: &[u32],
-) -> Result<(), EncodeFault>
+fn add_alone(constraints: &mut Constraints, id: &Text, singles: &[u32]) -> Result<(), EncodeFault>
     requires { length singles.now ≤ 8192 }
     ensures added { OnOk result (Adds (apart_rows id.now singles.now []) constraints.old constraints.new) }
     ensures too_large { IfErr result (λ e. e ≡ faults.TooLarge →

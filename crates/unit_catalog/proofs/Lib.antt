@@ -1,0 +1,6 @@
+mod Adding
+mod Finding
+mod Following
+mod Listing
+mod Numbers
+mod Versions

@@ -1,0 +1,11 @@
+use Rattle.std.proofs.Common.{take}
+use Rattle.std.proofs.lemmas.List.{take_more}
+use Rattle.unit_catalog.proofs.Finding.{below_place}
+use Rattle.unit_catalog.proofs.looking.matching.Goals as goal
+
+pub loop-number-preserved : goal.loop-number-preserved
+loop-number-preserved c =
+    let numbers = c.args.numbers.now in
+    let at = c.loop-number.number-index in
+    rw (take_more numbers at 0 c.loop-number-test.true)
+    (c.in_ok-keep.ensures (take at numbers) (below_place numbers at c.requires c.loop-number-test.true) c.loop-number.invariant)

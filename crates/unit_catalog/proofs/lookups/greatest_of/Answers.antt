@@ -1,0 +1,17 @@
+use Rattle.std.proofs.Common.{◌≡◌, ℕ, List, ap, sym, subst, ◌∙◌}
+use Rattle.unit_catalog.specs.Keys.{text_key}
+use Rattle.unit_catalog.specs.Listed.{listed}
+use Rattle.unit_model.specs.declared.unit.Unit.{Unit as Package}
+use Rattle.unit_catalog.specs.Greatest.{IsOfId}
+use Rattle.unit_catalog.proofs.Finding.{HasAll, greatest_of_all}
+use Rattle.unit_catalog.proofs.Following.{ids_lead}
+use Rattle.unit_catalog.proofs.lookups.greatest_of.Goals as goal
+
+pub returns : goal.returns
+returns c =
+    let units = c.args.units.now in
+    let index = c.args.indexes.now.ids in
+    let id = c.args.id.now in
+    let P : Package → Type 0 = IsOfId id c.args.env.now in
+    let lists : c.numbers-numbers.result.now ≡ listed index (text_key id) = c.numbers-numbers.ensures ∙ ap (listed index) c.text_key.ensures in
+    greatest_of_all units P c.numbers-numbers.result.now _ (subst (HasAll units P) (sym lists) (ids_lead units c.args.indexes.now c.requires id c.args.env.now)) c.greatest.ensures

@@ -1,0 +1,9 @@
+pub mod At
+pub mod Entered
+pub mod Greatest
+pub mod Indexed
+pub mod Keys
+pub mod Listed
+pub mod Looking
+pub mod Named
+pub mod Providers

@@ -1,0 +1,4 @@
+pub mod CutLemmas
+pub mod ExpandedLemmas
+pub mod PieceLemmas
+pub mod Steps

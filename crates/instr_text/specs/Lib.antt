@@ -1,0 +1,5 @@
+pub mod Cut
+pub mod Expanded
+pub mod Gives
+pub mod Piece
+pub mod Words

@@ -15,7 +15,7 @@ use Rattle.install_journal.specs.Overlay.{SameOutside}
 use Rattle.install_journal.specs.Restored.{RestoresLike, RestoresSame, IsSettled}
 use Rattle.install_journal.specs.declared.change.Change.{Change}
 use Rattle.install_journal.proofs.Counting.{restored_one, restored_same, restores_alike, is_file_or_not, same_outside_then, same_outside_sym}
-use Rattle.install_journal.proofs.Finishings.{but_gate_old, but_gate_new, settled_closed, mid_ran, mid_opens, mid_synced, synced_at, Synced}
+use Rattle.install_journal.proofs.Finishings.{but_gate_old, but_gate_new, but_gate_foreign, settled_closed, mid_ran, mid_opens, mid_synced, synced_at, Synced}
 use Rattle.install_journal.proofs.Keeps.{kept_restores}
 use Rattle.install_journal.proofs.Runs.{on_told, on_each, on_both, at_told, step_on, step_then, step_from, more}
 
@@ -43,6 +43,7 @@ but_old change s m none began image but =
     (λ opens. but_gate_old began.entries began.old s s.now m began.kept image but opens)
     (λ closed. restored_same m s.now began.old (same_outside_sym s.now began.old (now_old change s began none)) (but_gate_new s.now m but closed))
     (is_file_or_not gate_text (m gate_path)))
+    (but_gate_foreign s.now m but)
 
 -- the synced map is an image, and has an open gate
 synced_may_be : (t u : Told) → IsSynced t → IsImage t t.now → OpensGate t.now → TouchesGate t u → MayBeOpen u
@@ -114,4 +115,4 @@ module _ {D : Type 0} (told : D → Option Told) (left_since : D → ℕ → Map
 
   pub settles_then : (old mid new : D) → Step (told old) (told mid) (λ s t. RestoresLike s.now t.now) → Step (told mid) (told new) SettlesRestored → Step (told old) (told new) SettlesRestored
   settles_then old mid new like settled = step_then (told old) (told mid) (told new) (λ s t. RestoresLike s.now t.now) SettlesRestored SettlesRestored like settled
-      (λ s t u same settle restored is. settle restored (same restored is))
+      (λ s t u same settle restored is. settle restored (same.restores restored is))

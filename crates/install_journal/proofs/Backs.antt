@@ -16,8 +16,8 @@ use Rattle.install_journal.specs.Open.{IsOpen}
 use Rattle.install_journal.specs.Restored.{RestoresLike, RestoresSame}
 use Rattle.install_journal.specs.Undoing.{PutsBackFrom, shortened}
 use Rattle.install_journal.specs.declared.change.Change.{Change}
-use Rattle.install_journal.proofs.Counting.{restores_alike, restores_then}
-use Rattle.install_journal.proofs.Keeps.{kept_shows, kept_restores, kept_goes_on}
+use Rattle.install_journal.proofs.Counting.{restores_then}
+use Rattle.install_journal.proofs.Keeps.{kept_shows, kept_alike, kept_goes_on}
 use Rattle.install_journal.proofs.Opens.{open_restores}
 use Rattle.install_journal.proofs.Runs.{on_told, on_each, on_both, at_told, step_on, step_both, step_each, step_then, step_same, start_at, one, more}
 use Rattle.install_journal.proofs.Undoings.{never_damaged, room_back, back_fixed, back_puts, back_fails}
@@ -122,7 +122,7 @@ module _ {D : Type 0} (told : D → Option Told) (left_since : D → ℕ → Map
         (start_at told left_since old s (RestoresLike s.now) only e (λ m. open_restores change s m is.began is.image))
         touches time
         (λ t u same touch. back_kept change some s is u (subst (λ (x : Told). TouchesRestored change.left x u) same touch))
-        (λ u m kept img. restores_alike s.now m is.began.old (kept_restores is.began.entries is.began.old s s.now is.began.kept is.image) (kept_restores is.began.entries is.began.old u m kept img))).leaves)
+        (λ u m kept img. kept_alike is.began.entries is.began.entries is.began.old s u s.now m is.began.kept is.image kept img)).leaves)
 
     pub newest_tells : Step (told old) (told new) (λ s t. ⊤)
     newest_tells = step_each (told old) (told new) (TouchesRestored change.left) (λ s t. ⊤) (λ s t touch. tt) touches

@@ -11,14 +11,13 @@ use Rattle.backup_store.specs.Places.{gate_path}
 use Rattle.install_journal.specs.Looks.{Looks, OnlyLooks}
 use Rattle.install_journal.specs.Overlay.{SameOutside}
 use Rattle.install_journal.specs.Preparing.{IsPrepared, IsClosedOld, LeavesClosed, Moves, IsShut, OnUnchanged, OnRecover}
-use Rattle.install_journal.specs.Restored.{IsRestored}
+use Rattle.install_journal.specs.Restored.{RestoresTo}
 use Rattle.install_journal.specs.Undoing.{OnDamage}
 use Rattle.install_journal.specs.declared.fault.JournalFault.{JournalFault}
 use Rattle.install_journal.specs.declared.fault.JournalFault.TheVariants.{Failed, Damaged, NoMemory}
-use Rattle.install_journal.proofs.Counting.{restored_same}
 use Rattle.install_journal.proofs.Fixing.{fixed_all}
 use Rattle.install_journal.proofs.Opens.{image_back}
-use Rattle.install_journal.proofs.Preparings.{prepared_closed, moves_itself, looks_move, one_closed}
+use Rattle.install_journal.proofs.Preparings.{moved_back, prepared_closed, moves_itself, looks_move, one_closed}
 use Rattle.install_journal.proofs.Runs.{on_told, on_each, at_told, step_on, step_both, step_each, step_then, Ran, start_at, one, more}
 
 pub on_ok : {X E : Type 0} (result : Result X E) (P : Type 0) → P → OnOk result P
@@ -66,8 +65,8 @@ module _ {D : Type 0} (told : D → Option Told) (left_since : D → ℕ → Map
   pub moves_stay : (old new : D) → Step (told old) (told new) Moves → Step (told old) (told new) (λ s t. SameOutside t.now s.now)
   moves_stay old new moves = step_each (told old) (told new) Moves (λ s t. SameOutside t.now s.now) (λ s t move path outside. move.now path (inl outside)) moves
 
-  pub closed_restored : (old new : D) → LeavesClosed told left_since old new → OnTold (told old) (λ s. LeavesOnly told left_since old new (λ m. IsRestored m s.now))
-  closed_restored old new leaves = on_each (told old) _ _ (λ s left. weaker told left_since old new (IsClosedOld s.now) (λ m. IsRestored m s.now) (λ m closed. closed.0) left) leaves
+  pub closed_restored : (old new : D) → LeavesClosed told left_since old new → OnTold (told old) (λ s. LeavesOnly told left_since old new (RestoresTo s.now))
+  closed_restored old new leaves = on_each (told old) _ _ (λ s left. weaker told left_since old new (IsClosedOld s.now) (RestoresTo s.now) (λ m closed. closed.0) left) leaves
 
   pub looks_closed : (old new : D) → OnTold (told old) IsPrepared → OnTold (told old) (λ s. (m : Map) → left_since old s.moment m → IsImage s m) → OnlyLooks told left_since old new → LeavesClosed told left_since old new
   looks_closed old new prepared only looks = one_closed told left_since old new prepared only (looks_move told left_since old new looks)
@@ -85,18 +84,18 @@ module _ {D : Type 0} (told : D → Option Told) (left_since : D → ℕ → Map
       go (Some t) None is step = tt
       go (Some t) (Some u) is step = subst (λ (x : Told). R x u) (let same : t ≡ s = cc in same) step
 
-  pub open_then : (old mid new : D) → Step (told old) (told mid) Moves → OnTold (told old) (λ s. LeavesOnly told left_since old mid (λ m. IsRestored m s.now))
-      → (C : Told → Told → Type 0) → Step (told mid) (told new) C → OnTold (told mid) (λ t. LeavesOnly told left_since mid new (λ m. IsRestored m t.now))
-      → OnTold (told old) (λ s. LeavesOnly told left_since old new (λ m. IsRestored m s.now))
+  pub open_then : (old mid new : D) → Step (told old) (told mid) Moves → OnTold (told old) (λ s. LeavesOnly told left_since old mid (RestoresTo s.now))
+      → (C : Told → Told → Type 0) → Step (told mid) (told new) C → OnTold (told mid) (λ t. LeavesOnly told left_since mid new (RestoresTo t.now))
+      → OnTold (told old) (λ s. LeavesOnly told left_since old new (RestoresTo s.now))
   open_then old mid new moves first C call second = on_told (told old) _ (λ s e.
-      (more told left_since old mid new (Moves s) (λ t. Unit {0}) (λ m. IsRestored m s.now) C (λ t m. IsRestored m t.now)
-      (ran_at old mid s (λ m. IsRestored m s.now) Moves e moves (at_told (told old) s (λ t. LeavesOnly told left_since old mid (λ m. IsRestored m t.now)) e first))
+      (more told left_since old mid new (Moves s) (λ t. Unit {0}) (RestoresTo s.now) C (λ t. RestoresTo t.now)
+      (ran_at old mid s (RestoresTo s.now) Moves e moves (at_told (told old) s (λ t. LeavesOnly told left_since old mid (RestoresTo t.now)) e first))
       call second (λ t u move did. tt)
-      (λ t m move restored. restored_same m t.now s.now (λ path outside. sym (move.now path (inl outside))) restored)).leaves)
+      (λ t m move restored. moved_back s t m move restored)).leaves)
 
   module _ (old : D) (closed : OnTold (told old) (λ s. ¬ (OpensGate s.now))) (only : OnTold (told old) (λ s. (m : Map) → left_since old s.moment m → IsImage s m)) where
     abbrev Left : Told → Map → Type 0
-    Left s m = IsImage s m ⊎ IsRestored m s.now
+    Left s m = IsImage s m ⊎ RestoresTo s.now m
 
     pub none_left : OnTold (told old) (λ s. LeavesOnly told left_since old old (Left s))
     none_left = on_told (told old) _ (λ s e. (start_at told left_since old s (Left s) only e (λ m image. inl image)).leaves)
@@ -124,15 +123,14 @@ module _ {D : Type 0} (told : D → Option Told) (left_since : D → ℕ → Map
       mid_prepared = step_on (told old) (told mid) (λ s. ¬ (OpensGate s.now)) IsPrepared (λ s t. (t.now ≡ s.now) × ((t.synced ≡ s.now) × (t.touched ≡ []))) closed
           (step_both (told old) (told mid) (λ s t. t.now ≡ s.now) (λ s t. (t.synced ≡ s.now) × (t.touched ≡ [])) stays (step_both (told old) (told mid) (λ s t. t.synced ≡ s.now) (λ s t. t.touched ≡ []) synced settled))
           (λ s t shut call. record {
-            rest = λ path outside. fixed_all t t path (call.1.0 ∙ sym call.0) call.1.1;
-            gate = fixed_all t t gate_path (call.1.0 ∙ sym call.0) call.1.1;
+            rest = λ path left. fixed_all t t path (call.1.0 ∙ sym call.0) call.1.1;
             closed = λ opens. shut (subst (IsFileOf gate_text) (ap (λ (m : Map). m gate_path) call.0) opens);
           })
 
       module _ (new : D) where
-        pub then_left : (C : Told → Told → Type 0) → Step (told mid) (told new) C → OnTold (told mid) (λ t. LeavesOnly told left_since mid new (λ m. IsRestored m t.now)) → OnTold (told old) (λ s. LeavesOnly told left_since old new (Left s))
+        pub then_left : (C : Told → Told → Type 0) → Step (told mid) (told new) C → OnTold (told mid) (λ t. LeavesOnly told left_since mid new (RestoresTo t.now)) → OnTold (told old) (λ s. LeavesOnly told left_since old new (Left s))
         then_left C call leaves = on_told (told old) _ (λ s e.
-            (more told left_since old mid new (λ t. (t.now ≡ s.now) × ((m : Map) → IsImage t m → IsImage s m)) (λ t. Unit {0}) (Left s) C (λ t m. IsRestored m t.now)
+            (more told left_since old mid new (λ t. (t.now ≡ s.now) × ((m : Map) → IsImage t m → IsImage s m)) (λ t. Unit {0}) (Left s) C (λ t. RestoresTo t.now)
             (one told left_since old old mid (λ t. t ≡ s) (λ t. (t.now ≡ s.now) × ((m : Map) → IsImage t m → IsImage s m)) (Left s) (λ t u. (u.now ≡ t.now) × Narrows t u)
             (start_at told left_since old s (Left s) only e (λ m image. inl image))
             (step_both (told old) (told mid) (λ s t. t.now ≡ s.now) Narrows stays narrows)
@@ -140,17 +138,17 @@ module _ {D : Type 0} (told : D → Option Told) (left_since : D → ℕ → Map
             (λ t u same both. subst (λ (x : Told). (u.now ≡ x.now) × Narrows x u) same both)
             (λ u m both image. inl (both.1 m image)))
             call leaves (λ t u both did. tt)
-            (λ t m both restored. inr (subst (λ (x : Map). IsRestored m x) both.0 restored))).leaves)
+            (λ t m both restored. inr (subst (λ (x : Map). RestoresTo x m) both.0 restored))).leaves)
 
-        pub then_restores : OnTold (told mid) (λ t. LeavesOnly told left_since mid new (λ m. IsRestored m t.now)) → OnTold (told new) (λ t. (moment : ℕ) (m : Map) → moment ≤ t.moment → IsImage t m → left_since new moment m)
-            → OnTold (told old) (λ s. AllImages (λ m. IsRestored m s.now) (told new))
+        pub then_restores : OnTold (told mid) (λ t. LeavesOnly told left_since mid new (RestoresTo t.now)) → OnTold (told new) (λ t. (moment : ℕ) (m : Map) → moment ≤ t.moment → IsImage t m → left_since new moment m)
+            → OnTold (told old) (λ s. AllImages (RestoresTo s.now) (told new))
         then_restores leaves counts = back_to (told old) (told mid) stays
-            (on_each (told mid) _ (λ t. AllImages (λ m. IsRestored m t.now) (told new)) (λ t left. images_now told left_since mid new (λ m. IsRestored m t.now) counts left) leaves)
+            (on_each (told mid) _ (λ t. AllImages (RestoresTo t.now) (told new)) (λ t left. images_now told left_since mid new (RestoresTo t.now) counts left) leaves)
           where
-            back_to : (a b : Option Told) → Step a b (λ s t. t.now ≡ s.now) → OnTold b (λ t. AllImages (λ m. IsRestored m t.now) (told new)) → OnTold a (λ s. AllImages (λ m. IsRestored m s.now) (told new))
+            back_to : (a b : Option Told) → Step a b (λ s t. t.now ≡ s.now) → OnTold b (λ t. AllImages (RestoresTo t.now) (told new)) → OnTold a (λ s. AllImages (RestoresTo s.now) (told new))
             back_to None b same each = tt
             back_to (Some s) None same each = absurd same
-            back_to (Some s) (Some t) same each = λ m image. subst (λ (x : Map). IsRestored m x) same (each m image)
+            back_to (Some s) (Some t) same each = λ m image. subst (λ (x : Map). RestoresTo x m) same (each m image)
 
         pub then_stays : Step (told mid) (told new) (λ s t. SameOutside t.now s.now) → Step (told old) (told new) (λ s t. SameOutside t.now s.now)
         then_stays same = step_then (told old) (told mid) (told new) (λ s t. t.now ≡ s.now) (λ s t. SameOutside t.now s.now) (λ s t. SameOutside t.now s.now) stays same

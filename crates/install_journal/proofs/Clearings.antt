@@ -70,7 +70,7 @@ can_clear fn now entries path name is at flat loses image directory =
 pub inside_entries : (entries path : List (List ℕ)) (name : List ℕ) → entries ≡ entries_path → path ≡ entries ++ name ∷ [] → ¬ (IsLeft path)
 inside_entries entries path name is at left =
     let here : path ≡ entries_path ++ name ∷ [] = at ∙ ap (λ (p : List (List ℕ)). p ++ name ∷ []) is in
-    ⊎_elim (λ outside. outside _ here) (λ gate. let e = sym here ∙ gate in let f : ⊥ = cc in f) left
+    ⊎_elim (λ outside. outside _ here) (λ more. ⊎_elim (λ gate. let e = sym here ∙ gate in let f : ⊥ = cc in f) (λ foreign. foreign.not_entry name here) more) left
 
 pub directory_stays : (a b : Option Told) (entries path : List (List ℕ)) (name : List ℕ) → entries ≡ entries_path → path ≡ entries ++ name ∷ [] → OnTold a (λ t. t.now entries_path ≡ Some Dir) → Step a b (λ s t. SameBut path s.now t.now) → OnTold b (λ t. t.now entries_path ≡ Some Dir)
 directory_stays a b entries path name is at directory but = step_on a b (λ t. t.now entries_path ≡ Some Dir) (λ t. t.now entries_path ≡ Some Dir) (λ s t. SameBut path s.now t.now) directory but
@@ -91,7 +91,7 @@ each_told : (told : Option Told) (P : ℕ → Told → Type 0) (count : ℕ) →
 each_told None P count each = tt
 each_told (Some s) P count each = each
 
-none_or : (stands : Option Node) → (IsSome stands → ⊥) → stands ≡ None
+pub none_or : (stands : Option Node) → (IsSome stands → ⊥) → stands ≡ None
 none_or None nope = refl
 none_or (Some node) nope = absurd (nope refl)
 

@@ -14,6 +14,7 @@ use Rattle.backup_store.specs.declared.entry.Entry.{Entry}
 use Rattle.install_journal.specs.Overlay.{no_entry, overlay, Covers, SameOutside}
 use Rattle.install_journal.specs.Kept.{Serves}
 use Rattle.install_journal.specs.Restored.{AreCounted, IsRestored, RestoresLike}
+use Rattle.install_journal.specs.Tidy.{SameForeign}
 use Rattle.install_journal.proofs.Overlays.{covers_or_not, overlay_uncovered, outside_parent, outside_root, outside_below}
 use Rattle.install_journal.proofs.Unique.{holds_one_path, holds_one_node}
 
@@ -23,7 +24,7 @@ same_outside_sym a b same path outside = sym (same path outside)
 pub same_outside_then : (a b c : Map) → SameOutside a b → SameOutside b c → SameOutside a c
 same_outside_then a b c first second path outside = first path outside ∙ second path outside
 
-same_bytes : (a b : List ℕ) → (a ≡ b) ⊎ (a ≢ b)
+pub same_bytes : (a b : List ℕ) → (a ≡ b) ⊎ (a ≢ b)
 same_bytes a b = elim (cases_Bool (bytes_eq a b)) [
   | inl same ↦ inl ((bytes_eq-Decides a b).0 same)
   | inr other ↦ inr (λ is. both_ways _ other ((bytes_eq-Decides a b).1 is))
@@ -154,11 +155,17 @@ restored_one m a b first second = elim (is_file_or_not gate_text (m gate_path)) 
 ]
 
 -- two maps that restore to the same restore alike
-pub restores_alike : (a b old : Map) → IsRestored a old → IsRestored b old → RestoresLike a b
-restores_alike a b old first second restored is = restored_same b old restored (restored_one a restored old is first) second
+pub restores_alike : (a b old : Map) → IsRestored a old → IsRestored b old → SameForeign a b → RestoresLike a b
+restores_alike a b old first second foreign = record {
+  restores = λ restored is. restored_same b old restored (restored_one a restored old is first) second;
+  foreign = foreign;
+}
 
 pub restores_itself : (m : Map) → RestoresLike m m
-restores_itself m restored is = is
+restores_itself m = record { restores = λ restored is. is; foreign = λ path is. refl }
 
 pub restores_then : (a b c : Map) → RestoresLike a b → RestoresLike b c → RestoresLike a c
-restores_then a b c first second restored is = second restored (first restored is)
+restores_then a b c first second = record {
+  restores = λ restored is. second.restores restored (first.restores restored is);
+  foreign = λ path is. second.foreign path is ∙ first.foreign path is;
+}

@@ -8,16 +8,17 @@ use Rattle.folder_core.proofs.Maps.{changed_here, changed_other}
 use Rattle.backup_store.specs.Held.{gate_text, mark_text, IsOpen as OpensGate}
 use Rattle.backup_store.specs.Places.{IsOutside, gate_path, entry_path, mark_path}
 use Rattle.backup_store.specs.declared.entry.Entry.{Entry}
-use Rattle.install_journal.specs.Closing.{IsSynced, IsButGate, IsClosed, OldOrNew}
+use Rattle.install_journal.specs.Closing.{IsSynced, IsButGate, IsClosed, HasNoGate, OldOrNew}
 use Rattle.install_journal.specs.Kept.{AreKept}
 use Rattle.install_journal.specs.Open.{IsOpen}
 use Rattle.install_journal.specs.Overlay.{SameOutside}
 use Rattle.install_journal.specs.Restored.{IsRestored, RestoresLike, RestoresSame, IsSettled}
+use Rattle.install_journal.specs.Tidy.{SameForeign}
 use Rattle.install_journal.specs.declared.change.Change.{Change}
 use Rattle.install_journal.proofs.Closings.{nothing_touched}
 use Rattle.install_journal.proofs.Counting.{closed_restores, is_file_or_not, restores_alike}
 use Rattle.install_journal.proofs.Fixing.{fixed_synced, fixed_image}
-use Rattle.install_journal.proofs.Keeps.{kept_shows, kept_restores, kept_goes_on, shows_old, no_file, text_image}
+use Rattle.install_journal.proofs.Keeps.{kept_shows, kept_restores, kept_alike, kept_goes_on, shows_old, no_file, text_image}
 use Rattle.install_journal.proofs.Opens.{open_restores, open_stays}
 use Rattle.install_journal.proofs.Runs.{on_told, on_each, on_both, at_told, step_on, step_then, Ran, start_at, one, more, weaken}
 
@@ -46,10 +47,13 @@ but_gate_old entries old s n m kept image but opens =
 pub but_gate_new : (n m : Map) → IsButGate n m → ¬ (OpensGate m) → IsRestored m n
 but_gate_new n m but closed = closed_restores m n closed (λ path outside. sym (but.elsewhere path (λ e. outside _ e)))
 
+pub but_gate_foreign : (n m : Map) → IsButGate n m → SameForeign n m
+but_gate_foreign n m but path foreign = but.elsewhere path foreign.not_gate
+
 pub but_gate : (change : Change) (s : Told) (m : Map) → IsOpen change s → IsImage s s.now → IsButGate s.now m → OldOrNew s.now m
 but_gate change s m began image but = elim (is_file_or_not gate_text (m gate_path)) [
-  | inl opens ↦ inl (restores_alike s.now m began.old (kept_restores began.entries began.old s s.now began.kept image) (but_gate_old began.entries began.old s s.now m began.kept image but opens))
-  | inr closed ↦ inr (but_gate_new s.now m but closed)
+  | inl opens ↦ inl (restores_alike s.now m began.old (kept_restores began.entries began.old s s.now began.kept image) (but_gate_old began.entries began.old s s.now m began.kept image but opens) (but_gate_foreign s.now m but))
+  | inr closed ↦ inr (record { restores = but_gate_new s.now m but closed; foreign = but_gate_foreign s.now m but })
 ]
 
 -- what a sync leaves of a change
@@ -73,6 +77,23 @@ settled_closed s t u now synced closed =
       restores = λ m image. closed_restores m s.now (shut m image) (λ path outside. sym (image_now m image path ∙ same path outside));
       closed = shut;
     }
+
+-- the gate is gone once it is closed
+pub closed_gone : (a b : Option Told) → Step a b IsClosed → OnTold b HasNoGate
+closed_gone None None closed = tt
+closed_gone None (Some t) closed = absurd closed
+closed_gone (Some s) None closed = tt
+closed_gone (Some s) (Some t) closed = record {
+  gone = ap (λ (m : Map). m gate_path) closed.now ∙ changed_here s.now gate_path None gate_path refl;
+  synced = closed.synced;
+}
+
+-- where closing found no memory, all is synced
+pub none_synced : (a b : Option Told) → Step a b (λ s t. (t.now ≡ s.now) × IsSynced t) → OnTold b IsSynced
+none_synced None None same = tt
+none_synced None (Some t) same = absurd same
+none_synced (Some s) None same = tt
+none_synced (Some s) (Some t) same = same.1
 
 abbrev pub Synced : Told → Told → Type 0
 Synced s t = (t.now ≡ s.now) × ((t.synced ≡ s.now) × (t.touched ≡ []))
@@ -127,7 +148,7 @@ module _ {D : Type 0} (told : D → Option Told) (left_since : D → ℕ → Map
         (synced_at (told old) (told mid) stays synced settled)
         time
         (λ t u same call. (kept_synced change s u here now (call.1.0 ∙ ap (λ (x : Told). x.now) same) call.1.1, call.0 ∙ ap (λ (x : Told). x.now) same))
-        (λ t m kept img. restores_alike s.now m here.old (kept_restores here.entries here.old s s.now here.kept now) (kept_restores here.entries here.old t m kept.0 img))
+        (λ t m kept img. kept_alike here.entries here.entries here.old s t s.now m here.kept now kept.0 img)
 
     module _ (new : D) where
       -- where closing found no memory
@@ -137,7 +158,7 @@ module _ {D : Type 0} (told : D → Option Told) (left_since : D → ℕ → Map
           let now : IsImage s s.now = at_told (told old) s (λ t. IsImage t t.now) e image in
           (more told left_since old mid new (λ t. AreKept here.entries here.old t × (t.now ≡ s.now)) (λ t. Unit {0}) (RestoresLike s.now) C IsImage
           (mid_ran s e here now) call leaves (λ t u kept same. tt)
-          (λ t m kept img. restores_alike s.now m here.old (kept_restores here.entries here.old s s.now here.kept now) (kept_restores here.entries here.old t m kept.0 img))).leaves)
+          (λ t m kept img. kept_alike here.entries here.entries here.old s t s.now m here.kept now kept.0 img)).leaves)
 
       -- closing leaves the old or the new installation
       pub end_leaves : (C : Told → Told → Type 0) → Step (told mid) (told new) C → OnTold (told mid) (λ t. LeavesOnly told left_since mid new (IsButGate t.now)) → OnTold (told old) (λ s. LeavesOnly told left_since old new (OldOrNew s.now))

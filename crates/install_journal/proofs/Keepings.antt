@@ -14,6 +14,7 @@ use Rattle.install_journal.specs.Fixed.{IsFixed, IsFixedFile}
 use Rattle.install_journal.specs.Overlay.{Covers}
 use Rattle.install_journal.specs.Kept.{Serves, AreKept, IsTextFixed, IsFree, entry_of}
 use Rattle.install_journal.specs.Restored.{IsRestored}
+use Rattle.install_journal.specs.Tidy.{IsTidy}
 use Rattle.install_journal.proofs.Apart.{entry_apart, mark_apart, entry_mark_apart}
 use Rattle.install_journal.proofs.Fixing.{fixed_image, fixed_touches}
 use Rattle.install_journal.proofs.Keeps.{Shows, kept_moves, shows_old, no_file, length_push, each_push}
@@ -111,6 +112,14 @@ module _ (entries : List Entry) (old : Map) (s : Told) (path : List (List ℕ)) 
       written.elsewhere place entry mark ∙ fixed_image s s.now place stands fixed image))
       (λ counts. (entry_of s.now path, (pushed_serves, written.holds)))
 
+  -- a tidy map
+  pub keep_tidy : (m : Map) → LeavesEntry s number path m → IsTidy m
+  keep_tidy m (inl unmarked) place foreign =
+      unmarked.image.untouched place (λ is. ⊎_elim (λ e. foreign.not_entry _ e) (kept.foreign place foreign).untouched (contains_cons (entry_path number) place s.touched is))
+      ∙ (kept.foreign place foreign).synced
+  keep_tidy m (inr written) place foreign =
+      written.elsewhere place (λ e. foreign.not_entry _ e) (λ e. foreign.not_entry _ e) ∙ fixed_image s s.now place None (kept.foreign place foreign) image
+
   -- it is kept
   module _ (t : Told) (less : length entries < 1000000) (is_kept : IsKept s number path t) (is_entry : IsEntry path (s.now path)) where
     fixed_then : (place : List (List ℕ)) (stands : Option Node) → t.now place ≡ stands → IsFixed t place stands
@@ -177,4 +186,5 @@ module _ (entries : List Entry) (old : Map) (s : Told) (path : List (List ℕ)) 
               (entry_mark_apart n number (omega arith))
               (kept.no_later_texts n (omega arith) small);
           harmless = inl keep_free.mark;
+          foreign = λ place is. stays place None (λ e. is.not_entry _ e) (λ e. is.not_entry _ e) (kept.foreign place is);
         }

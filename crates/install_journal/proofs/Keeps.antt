@@ -1,5 +1,5 @@
 -- The entries of a change go on being kept, and serve the old installation in each image.
-use Rattle.std.proofs.Common.{◌≡◌, ◌≢◌, ℕ, ◌+◌, ◌<◌, ◌≤◌, List, [], ◌∷◌, ◌++◌, length, Option, Some, None, inl, inr, ⊎_elim, refl, sym, subst, arith, codes, length-append}
+use Rattle.std.proofs.Common.{◌≡◌, ◌≢◌, ℕ, ◌+◌, ◌<◌, ◌≤◌, List, [], ◌∷◌, ◌++◌, length, Option, Some, None, inl, inr, ⊎_elim, refl, sym, ◌∙◌, subst, arith, codes, length-append}
 use Rattle.std.proofs.lemmas.Bool.{cases_lt}
 use Rattle.std.proofs.lemmas.List.{get_or_append_left}
 use Rattle.std.proofs.Math.Nat.{eq-or-lt_of_le}
@@ -16,9 +16,10 @@ use Rattle.backup_store.specs.declared.entry.Entry.{Entry}
 use Rattle.install_journal.specs.Fixed.{IsFixed, IsFixedFile}
 use Rattle.install_journal.specs.Overlay.{no_entry, entry_at, Covers}
 use Rattle.install_journal.specs.Kept.{Serves, AreKept, IsStray, IsHarmless, IsTextFixed, IsFree}
-use Rattle.install_journal.specs.Restored.{IsRestored}
+use Rattle.install_journal.specs.Restored.{IsRestored, RestoresLike}
+use Rattle.install_journal.specs.Tidy.{IsTidy}
 use Rattle.install_journal.proofs.Apart.{entry_apart, mark_apart, entry_mark_apart}
-use Rattle.install_journal.proofs.Counting.{serve_restores, is_file_or_not}
+use Rattle.install_journal.proofs.Counting.{serve_restores, is_file_or_not, restores_alike}
 use Rattle.install_journal.proofs.Fixing.{fixed_image}
 use Rattle.install_journal.proofs.Overlays.{covers_front}
 
@@ -106,6 +107,15 @@ kept_restores entries old s m kept image = shows_old entries old m kept.most kep
     (λ stray. (stray.stray, (stray.serves, text_image s m (length entries + 1) stray.stray image stray.text)))
     kept.harmless)
 
+-- each image is tidy
+pub kept_tidy : (entries : List Entry) (old : Map) (s : Told) (m : Map) → AreKept entries old s → IsImage s m → IsTidy m
+kept_tidy entries old s m kept image path foreign = fixed_image s m path None (kept.foreign path foreign) image
+
+-- each image restores to what another restores to
+pub kept_alike : (before after : List Entry) (old : Map) (s t : Told) (n m : Map) → AreKept before old s → IsImage s n → AreKept after old t → IsImage t m → RestoresLike n m
+kept_alike before after old s t n m kept image held left =
+    restores_alike n m old (kept_restores before old s n kept image) (kept_restores after old t m held left) (λ path is. kept_tidy after old t m held left path is ∙ sym (kept_tidy before old s n kept image path is))
+
 file_goes_on : (s t : Told) (path : List (List ℕ)) (bytes : List ℕ) → ((stands : Option Node) → IsFixed s path stands → IsFixed t path stands) → IsFixedFile s path bytes → IsFixedFile t path bytes
 file_goes_on s t path bytes goes fixed = (fixed.0, goes _ fixed.1)
 
@@ -150,6 +160,7 @@ kept_moves entries old s t kept goes harmless =
           (entry_mark_apart number (length entries + 1) (omega arith))
           (kept.no_later_texts number above small);
       harmless = harmless;
+      foreign = λ path is. goes path None (λ covers. kept.serves.outside path covers _ is.below) (λ e. is.not_entry _ e) (λ e. is.not_entry _ e) (kept.foreign path is);
     }
 
 stray_goes_on : (entries : List Entry) (old : Map) (s t : Told) → ((stands : Option Node) → IsFixed s (entry_path (length entries + 1)) stands → IsFixed t (entry_path (length entries + 1)) stands) → IsStray entries old s → IsStray entries old t

@@ -14,6 +14,7 @@ pub mod FittingsLoose
 pub mod FittingsOrder
 pub mod FittingsPlan
 pub mod Fixing
+pub mod Foreigns
 pub mod Gatherings
 pub mod Keepings
 pub mod Keeps

@@ -17,7 +17,7 @@ use Rattle.install_journal.specs.Closing.{IsSynced, IsButGate, MayBeOpen}
 use Rattle.install_journal.specs.Fixed.{IsFixed}
 use Rattle.install_journal.specs.Open.{IsOpen}
 use Rattle.install_journal.specs.Preparing.{IsFresh, begun}
-use Rattle.install_journal.specs.Restored.{IsRestored}
+use Rattle.install_journal.specs.Restored.{IsRestored, RestoresTo}
 use Rattle.install_journal.proofs.Closings.{set_leaves, sync_leaves}
 use Rattle.install_journal.proofs.Counting.{serve_restores, closed_restores, is_file_or_not}
 use Rattle.install_journal.proofs.Fixing.{fixed_all}
@@ -39,8 +39,8 @@ abbrev open_file : Node
 open_file = File 420 gate_text
 
 -- a map that differs at the gate alone restores to what stood before it was opened
-pub fresh_but : (s : Told) (m : Map) → IsFresh s → IsFormed s.now → IsButGate s.now m → IsRestored m s.now
-fresh_but s m fresh formed but = elim (is_file_or_not gate_text (m gate_path)) [
+fresh_restores : (s : Told) (m : Map) → IsFresh s → IsFormed s.now → IsButGate s.now m → IsRestored m s.now
+fresh_restores s m fresh formed but = elim (is_file_or_not gate_text (m gate_path)) [
   | inl opens ↦ serve_restores [] s.now m (serves_nothing s.now) (λ path outside none. but.elsewhere path (λ e. outside _ e)) formed but.formed opens (record {
     most = omega arith;
     counts = λ place below. absurd (omega arith);
@@ -49,6 +49,12 @@ fresh_but s m fresh formed but = elim (is_file_or_not gate_text (m gate_path)) [
   })
   | inr closed ↦ closed_restores m s.now closed (λ path outside. sym (but.elsewhere path (λ e. outside _ e)))
 ]
+
+pub fresh_but : (s : Told) (m : Map) → IsFresh s → IsFormed s.now → IsButGate s.now m → RestoresTo s.now m
+fresh_but s m fresh formed but = record {
+  restores = fresh_restores s m fresh formed but;
+  foreign = λ path foreign. but.elsewhere path foreign.not_gate;
+}
 
 may_open : (s u : Told) → IsFresh s → IsFormed s.now → u.synced ≡ s.synced → Contains u.touched gate_path → MayBeOpen u
 may_open s u fresh formed synced touched =
@@ -88,6 +94,7 @@ begun_open s u t fresh formed set now synced settled =
         no_later_marks = λ number above small. other (mark_path number) None (λ e. cc) (fresh.entries.none _);
         no_later_texts = λ number above small. other (entry_path number) None (λ e. cc) (fresh.entries.none _);
         harmless = inl (other (mark_path 1) None (λ e. cc) (fresh.entries.none _));
+        foreign = λ path is. other path None is.not_gate (fresh.tidy path is);
       };
       undoes = λ path outside. ap (λ (m : Map). m path) (now ∙ set) ∙ changed_other s.now gate_path (Some open_file) path (λ e. outside _ e);
       all_left = λ _. refl;
@@ -113,21 +120,21 @@ module _ {D : Type 0} (told : D → Option Told) (left_since : D → ℕ → Map
   synced : OnTold (told old) IsSynced
   synced = on_each (told old) IsFresh IsSynced (λ s f. f.synced) fresh
 
-  restores_of : (new : D) → OnTold (told old) (λ s. LeavesOnly told left_since old new (IsButGate s.now)) → OnTold (told old) (λ s. LeavesOnly told left_since old new (λ m. IsRestored m s.now))
-  restores_of new leaves = on_each (told old) (λ s. Here s × LeavesOnly told left_since old new (IsButGate s.now)) (λ s. LeavesOnly told left_since old new (λ m. IsRestored m s.now))
-      (λ s both. weaker told left_since old new (IsButGate s.now) (λ m. IsRestored m s.now) (λ m but. fresh_but s m both.0.0 both.0.1.formed but) both.1)
+  restores_of : (new : D) → OnTold (told old) (λ s. LeavesOnly told left_since old new (IsButGate s.now)) → OnTold (told old) (λ s. LeavesOnly told left_since old new (RestoresTo s.now))
+  restores_of new leaves = on_each (told old) (λ s. Here s × LeavesOnly told left_since old new (IsButGate s.now)) (λ s. LeavesOnly told left_since old new (RestoresTo s.now))
+      (λ s both. weaker told left_since old new (IsButGate s.now) (RestoresTo s.now) (λ m but. fresh_but s m both.0.0 both.0.1.formed but) both.1)
       (on_both (told old) Here (λ s. LeavesOnly told left_since old new (IsButGate s.now)) here leaves)
 
   pub set_restores : (new : D) → Step (told old) (told new) (Touches path)
       → Step (told old) (told new) (λ s t. Elapses s.moment t.moment (left_since old) (left_since new) (IsImage t))
-      → OnTold (told old) (λ s. LeavesOnly told left_since old new (λ m. IsRestored m s.now))
+      → OnTold (told old) (λ s. LeavesOnly told left_since old new (RestoresTo s.now))
   set_restores new touches time = restores_of new (set_leaves told left_since old synced only new path is touches time)
 
   pub sync_restores : (mid new : D) → Step (told old) (told mid) (Touches path)
       → Step (told old) (told mid) (λ s t. Elapses s.moment t.moment (left_since old) (left_since mid) (IsImage t))
       → Step (told mid) (told new) Narrows
       → Step (told mid) (told new) (λ s t. Elapses s.moment t.moment (left_since mid) (left_since new) (IsImage t))
-      → OnTold (told old) (λ s. LeavesOnly told left_since old new (λ m. IsRestored m s.now))
+      → OnTold (told old) (λ s. LeavesOnly told left_since old new (RestoresTo s.now))
   sync_restores mid new touches time narrows later = restores_of new (sync_leaves told left_since old synced only mid new path is touches time narrows later)
 
   pub set_may_open : (new : D) → Step (told old) (told new) (λ s t. t.synced ≡ s.synced) → Step (told old) (told new) (λ s t. Contains t.touched path) → OnTold (told new) MayBeOpen

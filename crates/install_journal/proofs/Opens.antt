@@ -10,9 +10,8 @@ use Rattle.install_journal.specs.Looks.{Looks, OnlyLooks}
 use Rattle.install_journal.specs.Open.{IsOpen, spoiled}
 use Rattle.install_journal.specs.Restored.{RestoresLike, RestoresSame}
 use Rattle.install_journal.specs.declared.change.Change.{Change}
-use Rattle.install_journal.proofs.Counting.{restores_alike}
 use Rattle.install_journal.proofs.Fixing.{fixed_same}
-use Rattle.install_journal.proofs.Keeps.{kept_restores, kept_goes_on, free_goes_on}
+use Rattle.install_journal.proofs.Keeps.{kept_alike, kept_goes_on, free_goes_on}
 use Rattle.install_journal.proofs.Runs.{on_told, at_told, step_on, step_each, start_at, one}
 
 pub open_spoiled : (change : Change) (s : Told) → IsOpen change s → IsOpen (spoiled change) s
@@ -59,8 +58,7 @@ open_looks change s t past since is looks = open_stays change s t is looks.now (
 
 -- each image restores to what the map now restores to
 pub open_restores : (change : Change) (s : Told) (m : Map) → IsOpen change s → IsImage s s.now → IsImage s m → RestoresLike s.now m
-open_restores change s m is image_now image =
-    restores_alike s.now m is.old (kept_restores is.entries is.old s s.now is.kept image_now) (kept_restores is.entries is.old s m is.kept image)
+open_restores change s m is image_now image = kept_alike is.entries is.entries is.old s s s.now m is.kept image_now is.kept image
 
 looks_at : (a b : Option Told) (past since : ℕ → Map → Type 0)
     → Step a b (λ s t. t.now ≡ s.now) → Step a b (λ s t. t.synced ≡ s.synced) → Step a b (λ s t. t.touched ≡ s.touched)

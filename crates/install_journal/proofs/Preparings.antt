@@ -12,6 +12,7 @@ use Rattle.backup_store.specs.Places.{gate_path}
 use Rattle.install_journal.specs.Fixed.{IsFixed}
 use Rattle.install_journal.specs.Looks.{Looks, OnlyLooks}
 use Rattle.install_journal.specs.Preparing.{IsLeft, IsPrepared, Moves, IsClosedOld, LeavesClosed}
+use Rattle.install_journal.specs.Restored.{RestoresTo}
 use Rattle.install_journal.proofs.Closings.{nothing_below_other}
 use Rattle.install_journal.proofs.Counting.{closed_restores, restored_same}
 use Rattle.install_journal.proofs.Fixing.{fixed_image, fixed_touches, fixed_same}
@@ -19,9 +20,8 @@ use Rattle.install_journal.proofs.Runs.{on_told, on_each, on_both, at_told, step
 
 pub moves_prepared : (s t : Told) → IsPrepared s → Moves s t → IsPrepared t
 moves_prepared s t prepared moves = record {
-  rest = λ path outside. subst (IsFixed t path) (sym (moves.now path (inl outside))) (moves.fixed path (inl outside) (s.now path) (prepared.rest path outside));
-  gate = subst (IsFixed t gate_path) (sym (moves.now gate_path (inr refl))) (moves.fixed gate_path (inr refl) (s.now gate_path) prepared.gate);
-  closed = λ opens. prepared.closed (subst (IsFileOf gate_text) (moves.now gate_path (inr refl)) opens);
+  rest = λ path left. subst (IsFixed t path) (sym (moves.now path left)) (moves.fixed path left (s.now path) (prepared.rest path left));
+  closed = λ opens. prepared.closed (subst (IsFileOf gate_text) (moves.now gate_path (inr (inl refl))) opens);
 }
 
 pub moves_then : (s t u : Told) → Moves s t → Moves t u → Moves s u
@@ -44,15 +44,27 @@ moves_set s t path inside touches but = record {
 
 pub prepared_closed : (s t : Told) (m : Map) → IsPrepared s → Moves s t → IsImage t m → IsClosedOld s.now m
 prepared_closed s t m prepared moves image =
-    let at : (path : List (List ℕ)) → IsLeft path → IsFixed s path (s.now path) → m path ≡ s.now path = λ path left fixed. fixed_image t m path (s.now path) (moves.fixed path left (s.now path) fixed) image in
-    let shut : ¬ (OpensGate m) = λ opens. prepared.closed (subst (IsFileOf gate_text) (at gate_path (inr refl) prepared.gate) opens) in
-    (closed_restores m s.now shut (λ path outside. sym (at path (inl outside) (prepared.rest path outside))), shut)
+    let at : (path : List (List ℕ)) → IsLeft path → m path ≡ s.now path = λ path left. fixed_image t m path (s.now path) (moves.fixed path left (s.now path) (prepared.rest path left)) image in
+    let shut : ¬ (OpensGate m) = λ opens. prepared.closed (subst (IsFileOf gate_text) (at gate_path (inr (inl refl))) opens) in (
+      record {
+        restores = closed_restores m s.now shut (λ path outside. sym (at path (inl outside)));
+        foreign = λ path foreign. at path (inr (inr foreign));
+      },
+      shut,
+    )
 
 pub moves_itself : (s : Told) → Moves s s
 moves_itself s = record { fixed = λ path left stands fixed. fixed; now = λ path left. refl }
 
+-- what restores to the installation after some moves restores to that before them
+pub moved_back : (s t : Told) (m : Map) → Moves s t → RestoresTo t.now m → RestoresTo s.now m
+moved_back s t m moves restores = record {
+  restores = restored_same m t.now s.now (λ path outside. sym (moves.now path (inl outside))) restores.restores;
+  foreign = λ path foreign. restores.foreign path foreign ∙ moves.now path (inr (inr foreign));
+}
+
 closed_back : (s t : Told) (m : Map) → Moves s t → IsClosedOld t.now m → IsClosedOld s.now m
-closed_back s t m moves closed = (restored_same m t.now s.now (λ path outside. sym (moves.now path (inl outside))) closed.0, closed.1)
+closed_back s t m moves closed = (moved_back s t m moves closed.0, closed.1)
 
 step_at : (a b : Option Told) (s : Told) (R : Told → Told → Type 0) → a ≡ Some s → Step a b R → OnTold b (R s)
 step_at None b s R is step = absurd (let f : ⊥ = cc in f)

@@ -13,8 +13,9 @@ use Rattle.install_journal.specs.Restored.{RestoresLike, RestoresSame}
 use Rattle.install_journal.specs.Restoring.{IsUnderway, KeepsTo, AreSetBack}
 use Rattle.install_journal.specs.declared.plan.Plan.{Plan}
 use Rattle.install_journal.proofs.Counting.{restores_alike}
+use Rattle.install_journal.proofs.Finishings.{but_gate_foreign}
 use Rattle.install_journal.proofs.Overlaying.{gate_uncovered, closing_restores_to}
-use Rattle.install_journal.proofs.Restorings.{underway_keeps, keeps_itself, now_same, kept_restores}
+use Rattle.install_journal.proofs.Restorings.{underway_keeps, keeps_itself, now_same, kept_restores, kept_alike}
 use Rattle.install_journal.proofs.Runs.{on_told, on_both, at_told, step_on, step_both, step_each, step_from, step_then, start_at, one, more}
 use Rattle.install_journal.proofs.PutSteps.{set_back_now}
 
@@ -78,12 +79,10 @@ module _ {D : Type 0} (told : D → Option Told) (left_since : D → ℕ → Map
       restores_alike s.now m (overlay gathered.entries s.synced)
       (kept_restores plan s is.underway s s.now (keeps_itself plan s) now)
       (closing_restores_to gathered.entries s.synced gathered.sound.counted is.underway.is_plan.can_overlay m (subst (λ (x : Map). IsButGate x m) (set_back_now plan s is) but))
+      (but_gate_foreign s.now m but)
 
   image_alike : (s : Told) (m : Map) → AreSetBack plan s → IsImage s s.now → IsImage s m → RestoresLike s.now m
-  image_alike s m is now img =
-      restores_alike s.now m (overlay is.underway.is_plan.gathered.entries s.synced)
-      (kept_restores plan s is.underway s s.now (keeps_itself plan s) now)
-      (kept_restores plan s is.underway s m (keeps_itself plan s) img)
+  image_alike s m is now img = kept_alike plan s is.underway s m now (keeps_itself plan s) img
 
   pub end_same : (C : Told → Told → Type 0) → Step (told mid) (told new) C → OnTold (told mid) (λ t. LeavesOnly told left_since mid new (IsButGate t.now)) → RestoresSame told left_since old new
   end_same C call leaves = on_told (told old) _ (λ s e.

@@ -9,15 +9,13 @@ use Rattle.folder_core.specs.Step.{OnTold, Step}
 use Rattle.backup_store.specs.Held.{IsDamaged}
 use Rattle.backup_store.specs.PuttingBack.{HasRoomBack, PutsBack, TouchesRestored}
 use Rattle.backup_store.proofs.Moments.{on_told_new}
-use Rattle.install_journal.specs.Overlay.{overlay}
 use Rattle.install_journal.specs.Restored.{RestoresLike, RestoresSame}
 use Rattle.install_journal.specs.Restoring.{IsUnderway, KeepsTo, AreBare, AreSetBack}
 use Rattle.install_journal.specs.declared.plan.Oldest.{Oldest}
 use Rattle.install_journal.specs.declared.plan.OldKind.TheVariants.{Nothing}
 use Rattle.install_journal.specs.declared.plan.Plan.{Plan}
-use Rattle.install_journal.proofs.Counting.{restores_alike}
 use Rattle.install_journal.proofs.PlanOrder.{IsAt}
-use Rattle.install_journal.proofs.Restorings.{keeps_itself, keeps_then, keeps_touches, at_has, at_not_root, kept_restores}
+use Rattle.install_journal.proofs.Restorings.{keeps_itself, keeps_then, keeps_touches, at_has, at_not_root, kept_alike}
 use Rattle.install_journal.proofs.Runs.{on_told, on_each, on_both, at_told, step_on, step_both, step_from, step_then, step_same, start_at, one}
 use Rattle.install_journal.proofs.PutSteps.{AreGone, AreSet, gone_first, gone_next, gone_room, gone_all, bare_set, set_skip, set_room, set_next, set_all, keeps_restored, undamaged}
 
@@ -118,15 +116,11 @@ module _ {D : Type 0} (told : D → Option Told) (left_since : D → ℕ → Map
     (underway : OnTold (told old) (IsUnderway plan))
     (image : OnTold (told old) (λ s. IsImage s s.now))
     (only : OnTold (told old) (λ s. (m : Map) → left_since old s.moment m → IsImage s m)) where
-  kept_alike : (s t : Told) (m : Map) → IsUnderway plan s → IsImage s s.now → KeepsTo plan s t → IsImage t m → RestoresLike s.now m
-  kept_alike s t m is now keeps img =
-      restores_alike s.now m (overlay is.is_plan.gathered.entries s.synced) (kept_restores plan s is s s.now (keeps_itself plan s) now) (kept_restores plan s is t m keeps img)
-
   pub same_begun : RestoresSame told left_since old old
   same_begun = on_told (told old) _ (λ s e.
       let is : IsUnderway plan s = at_told (told old) s (IsUnderway plan) e underway in
       let now : IsImage s s.now = at_told (told old) s (λ t. IsImage t t.now) e image in
-      (start_at told left_since old s (RestoresLike s.now) only e (λ m. kept_alike s s m is now (keeps_itself plan s))).leaves)
+      (start_at told left_since old s (RestoresLike s.now) only e (λ m. kept_alike plan s is s m now (keeps_itself plan s))).leaves)
 
   pub same_kept : (new : D) → Step (told old) (told new) (KeepsTo plan) → Step (told old) (told new) (λ s t. Elapses s.moment t.moment (left_since old) (left_since new) (IsImage t))
       → RestoresSame told left_since old new
@@ -134,7 +128,7 @@ module _ {D : Type 0} (told : D → Option Told) (left_since : D → ℕ → Map
       let is : IsUnderway plan s = at_told (told old) s (IsUnderway plan) e underway in
       let now : IsImage s s.now = at_told (told old) s (λ t. IsImage t t.now) e image in
       (one told left_since old old new (λ t. t ≡ s) (KeepsTo plan s) (RestoresLike s.now) (KeepsTo plan)
-      (start_at told left_since old s (RestoresLike s.now) only e (λ m. kept_alike s s m is now (keeps_itself plan s)))
+      (start_at told left_since old s (RestoresLike s.now) only e (λ m. kept_alike plan s is s m now (keeps_itself plan s)))
       keeps time
       (λ t u same keep. subst (λ (x : Told). KeepsTo plan x u) same keep)
-      (λ u m keep img. kept_alike s u m is now keep img)).leaves)
+      (λ u m keep img. kept_alike plan s is u m now keep img)).leaves)

@@ -1,6 +1,6 @@
 -- What a recovery does.
-use Rattle.std.proofs.Common.{◌≡◌, ℕ, ◌≤◌, List, Option, Some, None, Result, Ok, Err, OnOk, inl, inr, ⊎_elim, refl, sym, ◌∙◌, ap, subst}
-use Rattle.std.specs.Result.{IfOk}
+use Rattle.std.proofs.Common.{◌≡◌, ℕ, ◌≤◌, List, [], Option, Some, None, Result, Ok, Err, OnOk, inl, inr, ⊎_elim, refl, sym, ◌∙◌, ap, subst}
+use Rattle.std.specs.Result.{IfOk, IfErr}
 use Rattle.folder_core.specs.Folder.{Map, Told}
 use Rattle.folder_core.specs.Crash.{IsImage, AllImages, Narrows, Elapses, LeavesOnly}
 use Rattle.folder_core.specs.Step.{OnTold, Step}
@@ -14,9 +14,11 @@ use Rattle.install_journal.specs.Closing.{IsSynced}
 use Rattle.install_journal.specs.Looks.{Looks, OnlyLooks}
 use Rattle.install_journal.specs.Overlay.{overlay, SameOutside}
 use Rattle.install_journal.specs.Plan.{IsPlan}
-use Rattle.install_journal.specs.Preparing.{IsShut}
-use Rattle.install_journal.specs.Recovering.{IsLeftOrRestores, PutsAllBack, Recovers, RestoresToo, SettlesWhatRestores}
+use Rattle.install_journal.specs.Preparing.{IsShut, OnUnchanged}
+use Rattle.install_journal.specs.Recovering.{IsLeftOrRestores, OnNoMemoryUnchanged, PutsAllBack, Recovers, RestoresToo, SettlesWhatRestores}
 use Rattle.install_journal.specs.Restored.{IsRestored, IsSettled, RestoresLike, RestoresSame}
+use Rattle.install_journal.specs.declared.fault.JournalFault.{JournalFault}
+use Rattle.install_journal.specs.declared.fault.JournalFault.TheVariants.{Failed, Damaged, NoMemory}
 use Rattle.install_journal.specs.declared.plan.Plan.{Plan}
 use Rattle.install_journal.specs.declared.recovering.Recovered.{Recovered}
 use Rattle.install_journal.specs.declared.recovering.Recovered.TheVariants.{Nothing, Entries}
@@ -26,7 +28,7 @@ use Rattle.install_journal.proofs.Counting.{closed_restores}
 use Rattle.install_journal.proofs.Keeps.{no_file}
 use Rattle.install_journal.proofs.Opens.{image_back}
 use Rattle.install_journal.proofs.Overlaying.{same_restores_to}
-use Rattle.install_journal.proofs.Runs.{on_told, on_each, on_both, step_both, step_each, step_then, start_at, one, more}
+use Rattle.install_journal.proofs.Runs.{on_told, on_each, on_both, step_on, step_both, step_each, step_then, start_at, one, more}
 
 -- what a map with an open gate and such a plan restores to
 plan_restores : (plan : Plan) (m : Map) (is : IsPlan plan m) → OpensGate m → IsRestored m (overlay is.gathered.entries m)
@@ -107,6 +109,21 @@ pub shut_then : (a b d : Option Told) → Step a b Narrows → Step b d IsStill 
 shut_then a b d narrows still = step_then a b d Narrows IsStill (λ s t. IsShut s → IsShut t) narrows still
     (λ s t u narrow more shut m image. shut m (narrow m (image_back t u m more.synced more.touched image)))
 
+-- after a sync all is synced
+pub synced_once : (a b : Option Told) → Step a b (λ s t. t.now ≡ s.now) → Step a b (λ s t. t.synced ≡ s.now) → Step a b (λ s t. t.touched ≡ []) → OnTold b IsSynced
+synced_once None None stays synced settled = tt
+synced_once None (Some t) stays synced settled = absurd stays
+synced_once (Some s) None stays synced settled = tt
+synced_once (Some s) (Some t) stays synced settled = record { synced = synced ∙ sym stays; settled = settled }
+
+-- where nothing is put back, all stays synced
+pub still_synced : {X : Type 0} (result : Result X JournalFault) (a b : Option Told) → OnTold a IsSynced → IfErr result (OnUnchanged (Step a b IsStill)) → IfErr result (OnNoMemoryUnchanged (OnTold b IsSynced))
+still_synced (Ok x) a b synced unchanged = tt
+still_synced (Err (Failed after)) a b synced unchanged = tt
+still_synced (Err (Damaged path)) a b synced unchanged = tt
+still_synced (Err (NoMemory after)) a b synced unchanged = λ is. step_on a b IsSynced IsSynced IsStill synced (unchanged is)
+    (λ s t had still. record { synced = still.synced ∙ had.synced ∙ sym still.now; settled = still.touched ∙ had.settled })
+
 pub shut_once : (a b : Option Told) → Step a b Narrows → Step a b (λ s t. IsShut s → IsShut t)
 shut_once a b narrows = step_each a b Narrows (λ s t. IsShut s → IsShut t) (λ s t narrow shut m image. shut m (narrow m image)) narrows
 
@@ -124,7 +141,7 @@ module _ {D : Type 0} (told : D → Option Told) (left_since : D → ℕ → Map
   pub restores_left : (old new : D) (plan : Plan) → OnTold (told old) (λ s. IsPlan plan s.now) → OnTold (told old) (λ s. OpensGate s.now) → RestoresSame told left_since old new → OnTold (told old) (λ s. LeavesOnly told left_since old new (RestoresToo s.now))
   restores_left old new plan is opened restores = on_each (told old) (λ s. (IsPlan plan s.now × OpensGate s.now) × LeavesOnly told left_since old new (RestoresLike s.now)) (λ s. LeavesOnly told left_since old new (RestoresToo s.now))
       (λ s all. weaker told left_since old new (RestoresLike s.now) (RestoresToo s.now)
-      (λ m like. record { opened = all.0.1; restored = overlay all.0.0.gathered.entries s.now; is_restored = plan_restores plan s.now all.0.0 all.0.1; too = like _ (plan_restores plan s.now all.0.0 all.0.1) }) all.1)
+      (λ m like. record { opened = all.0.1; restored = overlay all.0.0.gathered.entries s.now; is_restored = plan_restores plan s.now all.0.0 all.0.1; too = like.restores _ (plan_restores plan s.now all.0.0 all.0.1); foreign = like.foreign }) all.1)
       (on_both (told old) (λ s. IsPlan plan s.now × OpensGate s.now) (λ s. LeavesOnly told left_since old new (RestoresLike s.now)) (on_both (told old) (λ s. IsPlan plan s.now) (λ s. OpensGate s.now) is opened) restores)
 
   pub too_left : (old new : D) → OnTold (told old) (λ s. LeavesOnly told left_since old new (RestoresToo s.now)) → OnTold (told old) (λ s. LeavesOnly told left_since old new (IsLeftOrRestores s))

@@ -7,10 +7,12 @@ use Rattle.backup_store.specs.Places.{gate_path}
 use Rattle.backup_store.specs.declared.entry.Entry.{Entry}
 use Rattle.install_journal.specs.Overlay.{overlay, Covers}
 use Rattle.install_journal.specs.Plan.{IsPlan}
-use Rattle.install_journal.specs.Restored.{AreCounted, CanOverlay, IsRestored}
+use Rattle.install_journal.specs.Restored.{AreCounted, CanOverlay, IsRestored, RestoresLike}
 use Rattle.install_journal.specs.Restoring.{HasPath, IsUnderway, KeepsTo, IsSetBack}
+use Rattle.install_journal.specs.Tidy.{IsForeign}
 use Rattle.install_journal.specs.declared.plan.Oldest.{Oldest}
 use Rattle.install_journal.specs.declared.plan.Plan.{Plan}
+use Rattle.install_journal.proofs.Counting.{restores_alike}
 use Rattle.install_journal.proofs.Overlaying.{same_restores_to}
 use Rattle.install_journal.proofs.Overlays.{covers_or_not}
 use Rattle.install_journal.proofs.PlanOrder.{IsAt, at_contained, contained_at, below_higher}
@@ -76,6 +78,17 @@ module _ (plan : Plan) (s : Told) (underway : IsUnderway plan s) where
   kept_restores t m keeps image = same_restores_to entries s.synced counted can underway.opened m (λ path none.
       image.untouched path (λ at. none (has_covered path (⊎_elim (underway.touched path) (λ own. own) (keeps.touched path at))))
       ∙ ap (λ (x : Map). x path) keeps.synced)
+
+  -- and has what is synced where it isn't the journal's
+  pub kept_foreign : (t : Told) (m : Map) → KeepsTo plan s t → IsImage t m → (path : List (List ℕ)) → IsForeign path → m path ≡ s.synced path
+  kept_foreign t m keeps image path foreign =
+      image.untouched path (λ at. can.outside path (has_covered path (⊎_elim (underway.touched path) (λ own. own) (keeps.touched path at))) _ foreign.below)
+      ∙ ap (λ (x : Map). x path) keeps.synced
+
+  pub kept_alike : (t : Told) (m : Map) → IsImage s s.now → KeepsTo plan s t → IsImage t m → RestoresLike s.now m
+  kept_alike t m now keeps image =
+      restores_alike s.now m (overlay entries s.synced) (kept_restores s s.now (keeps_itself plan s) now) (kept_restores t m keeps image)
+      (λ path foreign. kept_foreign t m keeps image path foreign ∙ sym (kept_foreign s s.now (keeps_itself plan s) now path foreign))
 
   -- where the map now is an image
   module _ (image : IsImage s s.now) where

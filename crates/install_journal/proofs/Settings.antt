@@ -1,5 +1,5 @@
 -- The journal's directories are set up.
-use Rattle.std.proofs.Common.{◌≡◌, ◌≢◌, ℕ, List, [], ◌∷◌, ◌++◌, Option, Some, None, ⊎_elim, sym, ◌∙◌, ap, subst, codes}
+use Rattle.std.proofs.Common.{◌≡◌, ◌≢◌, ℕ, List, [], ◌∷◌, ◌++◌, Option, Some, None, inr, ⊎_elim, sym, ◌∙◌, ap, subst, codes}
 use Rattle.folder_core.specs.Folder.{Map, Told, SameBut}
 use Rattle.folder_core.specs.Crash.{IsImage}
 use Rattle.folder_core.specs.Node.{entries_path}
@@ -10,15 +10,19 @@ use Rattle.backup_store.specs.Held.{IsFileOf, gate_text}
 use Rattle.backup_store.specs.Places.{gate_path}
 use Rattle.install_journal.specs.Firsts.{Finds}
 use Rattle.install_journal.specs.Preparing.{IsLeft, IsPrepared, Moves, HasFlatEntries, HasNoEntries, IsDamage, IsFresh, SparesGate, journal_path}
+use Rattle.install_journal.specs.Tidy.{IsTidy}
 use Rattle.install_journal.proofs.Damages.{gate_free, entries_flat}
+use Rattle.install_journal.proofs.Foreigns.{undamaged_tidy}
 use Rattle.install_journal.proofs.Fixing.{fixed_synced, fixed_same}
 use Rattle.install_journal.proofs.Runs.{on_each, on_both, step_on, step_both, step_each, step_from, step_then}
 
 pub journal_inside : (journal : List (List ℕ)) → journal ≡ journal_path → ¬ (IsLeft journal)
-journal_inside journal is left = ⊎_elim (λ outside. outside [] is) (λ gate. let e = sym is ∙ gate in let f : ⊥ = cc in f) left
+journal_inside journal is left = ⊎_elim (λ outside. outside [] is)
+    (λ more. ⊎_elim (λ gate. let e = sym is ∙ gate in let f : ⊥ = cc in f) (λ foreign. let e = sym is ∙ foreign.below in let f : ⊥ = cc in f) more) left
 
 pub entries_inside : (entries : List (List ℕ)) → entries ≡ entries_path → ¬ (IsLeft entries)
-entries_inside entries is left = ⊎_elim (λ outside. outside (codes "e" ∷ []) is) (λ gate. let e = sym is ∙ gate in let f : ⊥ = cc in f) left
+entries_inside entries is left = ⊎_elim (λ outside. outside (codes "e" ∷ []) is)
+    (λ more. ⊎_elim (λ gate. let e = sym is ∙ gate in let f : ⊥ = cc in f) (λ foreign. foreign.not_entries is) more) left
 
 apart_journal : (path journal : List (List ℕ)) → journal ≡ journal_path → path ≢ journal_path → path ≢ journal
 apart_journal path journal is apart e = apart (e ∙ is)
@@ -73,9 +77,10 @@ module _ {D : Type 0} (told : D → Option Told) (left_since : D → ℕ → Map
       → OnTold (told one) (λ t. t.now journal ≡ Some Dir)
       → Step (told old) (told one) (λ s t. SameBut journal s.now t.now) → Step (told one) (told two) (λ s t. SameBut entries s.now t.now) → Step (told two) (told three) (λ s t. SparesGate s.now t.now)
       → OnTold (told three) (λ t. HasNoEntries t.now) → OnTold (told three) IsPrepared
+      → OnTold (told old) (λ s. IsImage s s.now) → Step (told old) (told three) Moves
       → Step (told three) (told new) (λ s t. t.now ≡ s.now) → Step (told three) (told new) (λ s t. t.synced ≡ s.now) → Step (told three) (told new) (λ s t. t.touched ≡ [])
       → OnTold (told new) IsFresh
-  fresh_then old one two three new journal entries is at none made first second spares cleared prepared stays synced settled =
+  fresh_then old one two three new journal entries is at none made first second spares cleared prepared image moves stays synced settled =
       let below : OnTold (told two) (λ t. (name : List ℕ) (rest : List (List ℕ)) → t.now (gate_path ++ name ∷ rest) ≡ None) =
       step_on (told old) (told two) (λ s. Finds (IsDamage s.now) None) (λ t. (name : List ℕ) (rest : List (List ℕ)) → t.now (gate_path ++ name ∷ rest) ≡ None) (λ s u. (t : Told) × (SameBut journal s.now t.now × SameBut entries t.now u.now)) none
       (step_then (told old) (told one) (told two) (λ s t. SameBut journal s.now t.now) (λ s t. SameBut entries s.now t.now) (λ s u. (t : Told) × (SameBut journal s.now t.now × SameBut entries t.now u.now)) first second (λ s t u p q. (t, (p, q))))
@@ -86,13 +91,18 @@ module _ {D : Type 0} (told : D → Option Told) (left_since : D → ℕ → Map
       step_on (told two) (told three) (λ t. (t.now journal_path ≡ Some Dir) × ((name : List ℕ) (rest : List (List ℕ)) → t.now (gate_path ++ name ∷ rest) ≡ None)) (λ u. (u.now journal_path ≡ Some Dir) × ((name : List ℕ) (rest : List (List ℕ)) → u.now (gate_path ++ name ∷ rest) ≡ None)) (λ s t. SparesGate s.now t.now)
       (on_both (told two) (λ t. t.now journal_path ≡ Some Dir) (λ t. (name : List ℕ) (rest : List (List ℕ)) → t.now (gate_path ++ name ∷ rest) ≡ None) dir below) spares
       (λ t u had spare. (spare.journal ∙ had.0, λ name rest. spare.below name rest (had.1 name rest))) in
-      step_on (told three) (told new) (λ u. ((u.now journal_path ≡ Some Dir) × ((name : List ℕ) (rest : List (List ℕ)) → u.now (gate_path ++ name ∷ rest) ≡ None)) × (HasNoEntries u.now × IsPrepared u)) IsFresh (λ s t. (t.now ≡ s.now) × ((t.synced ≡ s.now) × (t.touched ≡ [])))
-      (on_both (told three) (λ u. (u.now journal_path ≡ Some Dir) × ((name : List ℕ) (rest : List (List ℕ)) → u.now (gate_path ++ name ∷ rest) ≡ None)) (λ u. HasNoEntries u.now × IsPrepared u) then (on_both (told three) (λ u. HasNoEntries u.now) IsPrepared cleared prepared))
+      let tidy : OnTold (told three) (λ u. IsTidy u.now) = step_on (told old) (told three) (λ s. Finds (IsDamage s.now) None × IsImage s s.now) (λ u. IsTidy u.now) Moves
+      (on_both (told old) (λ s. Finds (IsDamage s.now) None) (λ s. IsImage s s.now) none image) moves
+      (λ s u both move path foreign. move.now path (inr (inr foreign)) ∙ undamaged_tidy s.now both.1.formed both.0 path foreign) in
+      step_on (told three) (told new) (λ u. ((u.now journal_path ≡ Some Dir) × ((name : List ℕ) (rest : List (List ℕ)) → u.now (gate_path ++ name ∷ rest) ≡ None)) × (HasNoEntries u.now × (IsPrepared u × IsTidy u.now))) IsFresh (λ s t. (t.now ≡ s.now) × ((t.synced ≡ s.now) × (t.touched ≡ [])))
+      (on_both (told three) (λ u. (u.now journal_path ≡ Some Dir) × ((name : List ℕ) (rest : List (List ℕ)) → u.now (gate_path ++ name ∷ rest) ≡ None)) (λ u. HasNoEntries u.now × (IsPrepared u × IsTidy u.now)) then
+      (on_both (told three) (λ u. HasNoEntries u.now) (λ u. IsPrepared u × IsTidy u.now) cleared (on_both (told three) IsPrepared (λ u. IsTidy u.now) prepared tidy)))
       (step_both (told three) (told new) (λ s t. t.now ≡ s.now) (λ s t. (t.synced ≡ s.now) × (t.touched ≡ [])) stays (step_both (told three) (told new) (λ s t. t.synced ≡ s.now) (λ s t. t.touched ≡ []) synced settled))
       (λ u t had call. record {
+        tidy = λ path foreign. ap (λ (m : Map). m path) call.0 ∙ had.1.1.1 path foreign;
         synced = record { synced = call.1.0 ∙ sym call.0; settled = call.1.1 };
         entries = record { directory = ap (λ (m : Map). m entries_path) call.0 ∙ had.1.0.directory; none = λ name. ap (λ (m : Map). m (entries_path ++ name ∷ [])) call.0 ∙ had.1.0.none name };
         journal = ap (λ (m : Map). m journal_path) call.0 ∙ had.0.0;
         below_gate = λ name rest. ap (λ (m : Map). m (gate_path ++ name ∷ rest)) call.0 ∙ had.0.1 name rest;
-        closed = λ opens. had.1.1.closed (subst (IsFileOf gate_text) (ap (λ (m : Map). m gate_path) call.0) opens);
+        closed = λ opens. had.1.1.0.closed (subst (IsFileOf gate_text) (ap (λ (m : Map). m gate_path) call.0) opens);
       })

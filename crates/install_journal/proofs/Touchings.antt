@@ -21,8 +21,8 @@ use Rattle.install_journal.specs.declared.change.Change.{Change}
 use Rattle.install_journal.proofs.Closings.{nothing_below_other}
 use Rattle.install_journal.proofs.Counting.{restores_alike}
 use Rattle.install_journal.proofs.Fixing.{fixed_image, fixed_touches}
-use Rattle.install_journal.proofs.Keepings.{keep_fails, keep_leaves, keep_free, keep_pushes}
-use Rattle.install_journal.proofs.Keeps.{kept_restores, kept_goes_on, free_goes_on, length_push}
+use Rattle.install_journal.proofs.Keepings.{keep_fails, keep_leaves, keep_tidy, keep_free, keep_pushes}
+use Rattle.install_journal.proofs.Keeps.{kept_restores, kept_tidy, kept_alike, kept_goes_on, free_goes_on, length_push}
 use Rattle.install_journal.proofs.Opens.{open_restores}
 use Rattle.install_journal.proofs.Overlays.{covers_back}
 use Rattle.install_journal.proofs.Runs.{on_told, on_each, on_both, at_told, step_on, step_both, step_each, step_then, images_on, Ran, start_at, one, more}
@@ -61,9 +61,15 @@ module _ (change : Change) (path : List (List ℕ)) (ready : change.ready ≡ tr
     has_no_mark m image = subst (λ (n : ℕ). m (mark_path n) ≡ None) count (fixed_image s m (mark_path (length is.began.entries + 1)) None (is.began.free ready).mark image)
 
     -- a crash while the entry is kept leaves the old installation
-    pub keeps_old : (m : Map) → LeavesEntry s k path m → IsRestored m is.began.old
+    keeps_old : (m : Map) → LeavesEntry s k path m → IsRestored m is.began.old
     keeps_old m leaves = keep_leaves is.began.entries is.began.old s path is.began.kept (is.began.free ready) is.image outside is.can m
         (subst (λ (n : ℕ). LeavesEntry s n path m) (sym count) leaves)
+
+    pub keeps_like : (m : Map) → LeavesEntry s k path m → RestoresLike s.now m
+    keeps_like m leaves = restores_alike s.now m is.began.old (kept_restores is.began.entries is.began.old s s.now is.began.kept is.image) (keeps_old m leaves)
+        (λ place foreign. keep_tidy is.began.entries is.began.old s path is.began.kept (is.began.free ready) is.image outside is.can m
+        (subst (λ (n : ℕ). LeavesEntry s n path m) (sym count) leaves) place foreign
+        ∙ sym (kept_tidy is.began.entries is.began.old s s.now is.began.kept is.image place foreign))
 
     -- where the entry wasn't kept, the change is as before but for its readiness
     pub not_kept : (t : Told) → SameButEntry k s.now t.now → HasCome s k path t → IsOpen (record change { ready = false; failed = true }) t
@@ -173,12 +179,11 @@ module _ {D : Type 0} (told : D → Option Told) (left_since : D → ℕ → Map
     kept_ran : (s : Told) → told old ≡ Some s → (is : IsTouchable change path s) → (C : Told → Told → Type 0) (N : Told → Type 0)
         → Step (told old) (told mid) C → ((t : Told) → C s t → N t) → Ran told left_since old mid N (RestoresLike s.now)
     kept_ran s e is C N call f =
-        let alike : (m : Map) → IsRestored m is.began.old → RestoresLike s.now m = λ m. restores_alike s.now m is.began.old (kept_restores is.began.entries is.began.old s s.now is.began.kept is.image) in
         more told left_since old old mid (λ t. t ≡ s) N (RestoresLike s.now) C (λ t. LeavesEntry t (change.kept + 1) path)
         (start_at told left_since old s (RestoresLike s.now) only e (λ m. open_restores change s m is.began is.image))
         call leaves
         (λ t u same did. f u (subst (λ (x : Told). C x u) same did))
-        (λ t m same left. alike m (keeps_old change path ready outside s is m (subst (λ (x : Told). LeavesEntry x (change.kept + 1) path m) same left)))
+        (λ t m same left. keeps_like change path ready outside s is m (subst (λ (x : Told). LeavesEntry x (change.kept + 1) path m) same left))
 
     pub failed_restores : RestoresSame told left_since old mid
     failed_restores = on_told (told old) _ (λ s e.
@@ -221,7 +226,7 @@ module _ {D : Type 0} (told : D → Option Told) (left_since : D → ℕ → Map
           (kept_ran s e is Kept (λ t. Kept s t) was_kept (λ t did. did))
           was_set time
           (λ t u did set. then_kept change path ready outside s is t less did.0 did.1.holds.entry u set.0 set.1)
-          (λ u m held img. restores_alike s.now m is.began.old (kept_restores is.began.entries is.began.old s s.now is.began.kept is.image) (kept_restores (is.began.entries ++ entry_of s.now path ∷ []) is.began.old u m held img))).leaves)
+          (λ u m held img. kept_alike is.began.entries (is.began.entries ++ entry_of s.now path ∷ []) is.began.old s u s.now m is.began.kept is.image held img)).leaves)
 
       pub set_holds : Step (told old) (told new) (λ s u. HoldsEntry u.now (change.kept + 1) path (s.now path))
       set_holds = step_then (told old) (told mid) (told new) Kept Set (λ s u. HoldsEntry u.now (change.kept + 1) path (s.now path)) was_kept was_set

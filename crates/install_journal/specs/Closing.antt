@@ -4,7 +4,7 @@ use Rattle.folder_core.specs.Crash.{IsImage}
 use Rattle.folder_core.specs.Folder.{Map, Told, IsFormed, SameBut, set_at}
 use Rattle.backup_store.specs.Held.{IsOpen as OpensGate}
 use Rattle.backup_store.specs.Places.{gate_path}
-use Rattle.install_journal.specs.Restored.{IsRestored, RestoresLike}
+use Rattle.install_journal.specs.Restored.{RestoresLike, RestoresTo}
 use Rattle.install_journal.specs.declared.change.Change.{Change}
 use Rattle.install_journal.specs.declared.fault.FinishFault.{FinishFault}
 use Rattle.install_journal.specs.declared.fault.FinishFault.TheVariants.{Before, NoMemory, Closing}
@@ -36,7 +36,12 @@ pub record IsClosed (s t : Told) : Type 0 where
 
 -- The map restores to what the earlier one does, or to the installation of the earlier one.
 abbrev pub OldOrNew : Map → Map → Type 0
-OldOrNew before m = RestoresLike before m ⊎ IsRestored m before
+OldOrNew before m = RestoresLike before m ⊎ RestoresTo before m
+
+-- Nothing stands at the gate, and all is synced: so nothing stands there in any image.
+pub record HasNoGate (s : Told) : Type 0 where
+  pub gone : s.now gate_path ≡ None
+  pub synced : IsSynced s
 
 -- Some image has an open gate.
 abbrev pub MayBeOpen : Told → Type 0
@@ -53,6 +58,12 @@ abbrev pub HasFailed : FinishFault → Type 0
 HasFailed (Before change) = Unit {0}
 HasFailed (NoMemory change) = ⊥
 HasFailed Closing = Unit {0}
+
+-- Where no memory was found, P holds.
+abbrev pub OnNoMemory : Type 0 → FinishFault → Type 0
+OnNoMemory P (Before change) = Unit {0}
+OnNoMemory P (NoMemory change) = P
+OnNoMemory P Closing = Unit {0}
 
 -- Where the fault came when the gate was closed or after it, P holds.
 abbrev pub OnClosing : Type 0 → FinishFault → Type 0

@@ -11,6 +11,7 @@ use Rattle.backup_store.specs.Places.{IsOutside, gate_path, entry_path, mark_pat
 use Rattle.backup_store.specs.declared.entry.Entry.{Entry}
 use Rattle.install_journal.specs.Fixed.{IsFixed, IsFixedFile}
 use Rattle.install_journal.specs.Overlay.{entry_at, overlay, Covers, SameOutside}
+use Rattle.install_journal.specs.Tidy.{IsForeign}
 
 -- the entry of what stands at a path
 abbrev pub entry_of : Map → List (List ℕ) → Entry
@@ -45,7 +46,8 @@ pub record IsStray (entries : List Entry) (old : Map) (s : Told) : Type 0 where
 abbrev pub IsHarmless : List Entry → Map → Told → Type 0
 IsHarmless entries old s = IsFixed s (mark_path (length entries + 1)) None ⊎ IsStray entries old s
 
--- The entries are kept in each image, and serve the old installation. Outside `.p2` nothing but their paths is changed.
+-- The entries are kept in each image, and serve the old installation. Outside `.p2` nothing but their paths is changed, and
+-- each image is tidy.
 pub record AreKept (entries : List Entry) (old : Map) (s : Told) : Type 0 where
   pub most : length entries ≤ 1000000
   pub serves : Serves entries old
@@ -58,6 +60,7 @@ pub record AreKept (entries : List Entry) (old : Map) (s : Told) : Type 0 where
   pub no_later_marks : (number : ℕ) → length entries + 1 < number → number ≤ 1000001 → IsFixed s (mark_path number) None
   pub no_later_texts : (number : ℕ) → length entries + 1 < number → number ≤ 1000001 → IsFixed s (entry_path number) None
   pub harmless : IsHarmless entries old s
+  pub foreign : (path : List (List ℕ)) → IsForeign path → IsFixed s path None
 
 -- Nothing stands where the next entry is to stand.
 pub record IsFree (entries : List Entry) (s : Told) : Type 0 where

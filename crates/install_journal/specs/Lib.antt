@@ -15,5 +15,6 @@ pub mod Reading
 pub mod Recovering
 pub mod Restored
 pub mod Restoring
+pub mod Tidy
 pub mod Touching
 pub mod Undoing

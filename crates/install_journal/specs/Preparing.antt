@@ -13,7 +13,8 @@ use Rattle.backup_store.specs.Places.{IsOutside, gate_path}
 use Rattle.install_journal.specs.Closing.{IsSynced}
 use Rattle.install_journal.specs.Firsts.{IsFirst}
 use Rattle.install_journal.specs.Fixed.{IsFixed}
-use Rattle.install_journal.specs.Restored.{IsRestored}
+use Rattle.install_journal.specs.Restored.{RestoresTo}
+use Rattle.install_journal.specs.Tidy.{IsForeign, IsTidy}
 use Rattle.install_journal.specs.declared.change.Change.{Change}
 use Rattle.install_journal.specs.declared.fault.JournalFault.{JournalFault}
 use Rattle.install_journal.specs.declared.fault.JournalFault.TheVariants.{Failed, Damaged, NoMemory}
@@ -22,15 +23,14 @@ use Rattle.install_journal.specs.declared.fault.JournalFault.TheVariants.{Failed
 abbrev pub journal_path : List (List ℕ)
 journal_path = codes ".p2" ∷ []
 
--- The gate is closed in each image, and outside `.p2` each has what stands now.
-pub record IsPrepared (s : Told) : Type 0 where
-  pub rest : (path : List (List ℕ)) → IsOutside path → IsFixed s path (s.now path)
-  pub gate : IsFixed s gate_path (s.now gate_path)
-  pub closed : ¬ (OpensGate s.now)
-
--- What stays as it is until the gate is opened: all that is outside `.p2`, and the gate.
+-- What stays as it is until the gate is opened: all that is outside `.p2`, the gate, and what isn't the journal's.
 abbrev pub IsLeft : List (List ℕ) → Type 0
-IsLeft path = IsOutside path ⊎ (path ≡ gate_path)
+IsLeft path = IsOutside path ⊎ ((path ≡ gate_path) ⊎ IsForeign path)
+
+-- The gate is closed in each image, and each has what stands now where that is to stay.
+pub record IsPrepared (s : Told) : Type 0 where
+  pub rest : (path : List (List ℕ)) → IsLeft path → IsFixed s path (s.now path)
+  pub closed : ¬ (OpensGate s.now)
 
 pub record Moves (s t : Told) : Type 0 where
   pub fixed : (path : List (List ℕ)) → IsLeft path → (stands : Option Node) → IsFixed s path stands → IsFixed t path stands
@@ -47,7 +47,7 @@ pub record HasNoEntries (m : Map) : Type 0 where
 
 -- The map restores to this installation, and its gate is closed.
 abbrev pub IsClosedOld : Map → Map → Type 0
-IsClosedOld old m = IsRestored m old × (¬ (OpensGate m))
+IsClosedOld old m = RestoresTo old m × (¬ (OpensGate m))
 
 abbrev pub LeavesClosed : {D : Type 0} → (D → Option Told) → (D → ℕ → Map → Type 0) → D → D → Type 0
 LeavesClosed told left_since old new = OnTold (told old) (λ s. LeavesOnly told left_since old new (IsClosedOld s.now))
@@ -80,6 +80,7 @@ begun = record { kept = 0; left = 0; ready = true; failed = false }
 
 -- The journal's places are empty, and all is synced: the gate can be opened.
 pub record IsFresh (s : Told) : Type 0 where
+  pub tidy : IsTidy s.now
   pub synced : IsSynced s
   pub entries : HasNoEntries s.now
   pub journal : s.now journal_path ≡ Some Dir

@@ -8,6 +8,7 @@ use Rattle.backup_store.specs.Held.{Counts, HoldsEntry, IsOpen as OpensGate}
 use Rattle.backup_store.specs.Places.{IsOutside}
 use Rattle.backup_store.specs.declared.entry.Entry.{Entry}
 use Rattle.install_journal.specs.Overlay.{entry_at, overlay, Covers, SameOutside}
+use Rattle.install_journal.specs.Tidy.{SameForeign}
 
 -- The entries that count: those numbered 1, 2 and on, as long as each counts, and at most a million.
 pub record AreCounted (m : Map) (entries : List Entry) : Type 0 where
@@ -36,11 +37,18 @@ pub record IsRestored (m restored : Map) : Type 0 where
   pub closed : ¬ (OpensGate m) → SameOutside restored m
   pub opened : OpensGate m → IsPutBack m restored
 
--- What the first map restores to, the second does too.
-abbrev pub RestoresLike : Map → Map → Type 0
-RestoresLike first second = (restored : Map) → IsRestored first restored → IsRestored second restored
+-- What the first map restores to, the second does too, and what isn't the journal's below `.p2` is the same in both.
+pub record RestoresLike (first second : Map) : Type 0 where
+  pub restores : (restored : Map) → IsRestored first restored → IsRestored second restored
+  pub foreign : SameForeign first second
 
--- What a crash at any moment between leaves restores to what the map at the earlier moment restores to.
+-- The second map restores to the installation of the first, and what isn't the journal's below `.p2` is the same in both.
+pub record RestoresTo (first second : Map) : Type 0 where
+  pub restores : IsRestored second first
+  pub foreign : SameForeign first second
+
+-- What a crash at any moment between leaves restores to what the map at the earlier moment restores to. What isn't the
+-- journal's below `.p2` is as it was.
 abbrev pub RestoresSame : {D : Type 0} → (D → Option Told) → (D → ℕ → Map → Type 0) → D → D → Type 0
 RestoresSame told left_since old new = OnTold (told old) (λ s. LeavesOnly told left_since old new (RestoresLike s.now))
 

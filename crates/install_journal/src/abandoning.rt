@@ -4,7 +4,7 @@ ghost use Rattle.folder_core.specs.Step.{OnTold, Step};
 ghost use Rattle.backup_store.specs.Fault.{IfDamaged};
 ghost use Rattle.backup_store.specs.Places.{gate_path};
 ghost use Rattle.install_journal.specs.Abandoning.{SettlesRestored};
-ghost use Rattle.install_journal.specs.Closing.{MayBeOpen};
+ghost use Rattle.install_journal.specs.Closing.{HasNoGate, MayBeOpen};
 ghost use Rattle.install_journal.specs.Open.{IsOpen, left_of};
 ghost use Rattle.install_journal.specs.Restored.{RestoresSame};
 ghost use Rattle.install_journal.specs.Undoing.{AsksRecovery, OnDamage, IsFailure};
@@ -23,6 +23,7 @@ impl Change {
     pub fn abandon<F: Folder>(mut self, alloc: Global, folder: &mut F) -> Result<(), JournalFault>
         requires { OnTold (F.told folder.old) (IsOpen self) }
         ensures abandoned { OnOk result (Step (F.told folder.old) (F.told folder.new) SettlesRestored) }
+        ensures gate_gone { OnOk result (OnTold (F.told folder.new) HasNoGate) }
         ensures tells { Step (F.told folder.old) (F.told folder.new) (λ s t. ⊤) }
         ensures restores { RestoresSame F.told F.left_since folder.old folder.new }
         ensures recover { IfErr result AsksRecovery }
@@ -38,6 +39,7 @@ impl Change {
     fn put_all_back<F: Folder>(&mut self, alloc: Global, folder: &mut F) -> Result<(), JournalFault>
         requires { OnTold (F.told folder.old) (IsOpen self.old) }
         ensures abandoned { OnOk result (Step (F.told folder.old) (F.told folder.new) SettlesRestored) }
+        ensures gate_gone { OnOk result (OnTold (F.told folder.new) HasNoGate) }
         ensures tells { Step (F.told folder.old) (F.told folder.new) (λ s t. ⊤) }
         ensures restores { RestoresSame F.told F.left_since folder.old folder.new }
         ensures recover { IfErr result AsksRecovery }
@@ -67,6 +69,7 @@ impl Change {
         requires none_left { left_of self.now ≡ 0 }
         requires open { OnTold (F.told folder.old) (IsOpen self.now) }
         ensures settled { OnOk result (Step (F.told folder.old) (F.told folder.new) SettlesRestored) }
+        ensures gate_gone { OnOk result (OnTold (F.told folder.new) HasNoGate) }
         ensures tells { Step (F.told folder.old) (F.told folder.new) (λ s t. ⊤) }
         ensures restores { RestoresSame F.told F.left_since folder.old folder.new }
         ensures open_gate { OnErr result (OnTold (F.told folder.new) MayBeOpen) }

@@ -11,7 +11,7 @@ ghost use Rattle.install_journal.specs.Firsts.{Finds, IsFirst};
 ghost use Rattle.install_journal.specs.Open.{IsOpen};
 ghost use Rattle.install_journal.specs.Overlay.{SameOutside};
 ghost use Rattle.install_journal.specs.Preparing.{IsDamage, IsPrepared, IsShut, OnUnchanged, OnRecover, NeverEither, begun, journal_path};
-ghost use Rattle.install_journal.specs.Restored.{IsRestored};
+ghost use Rattle.install_journal.specs.Restored.{RestoresTo};
 ghost use Rattle.install_journal.specs.Undoing.{IsFailure, OnDamage};
 
 use crate::change::Change;
@@ -30,7 +30,8 @@ const FILE_MODE: u16 = 0o644;
 impl Change {
     /// Begins a change, in a folder whose gate is closed: syncs, makes the journal's directories, removes what is in them,
     /// syncs, opens the gate, and syncs. From then on, a crash at any moment leaves the old installation, until the change is
-    /// finished.
+    /// finished. Below `.p2` nothing is ever put but `undo`, `e` and what is directly in `e`, here and by each later call of the
+    /// change.
     ///
     /// `Damaged` comes exactly where `.p2` has a child other than `undo` and `e`, or something lies below `.p2/undo` or below
     /// a child of `.p2/e`. It names the first such path in the order of paths. Nothing is changed then.
@@ -39,11 +40,11 @@ impl Change {
         ensures begun { IfOk result (λ change. change ≡ begun) }
         ensures is_open { IfOk result (λ change. OnTold (F.told folder.new) (IsOpen change)) }
         ensures stays { Step (F.told folder.old) (F.told folder.new) (λ s t. SameOutside t.now s.now) }
-        ensures leaves { OnTold (F.told folder.old) (λ s. LeavesOnly F.told F.left_since folder.old folder.new (λ m. IsImage s m ⊎ IsRestored m s.now)) }
-        ensures restores { OnOk result (OnTold (F.told folder.old) (λ s. AllImages (λ m. IsRestored m s.now) (F.told folder.new))) }
+        ensures leaves { OnTold (F.told folder.old) (λ s. LeavesOnly F.told F.left_since folder.old folder.new (λ m. IsImage s m ⊎ RestoresTo s.now m)) }
+        ensures restores { OnOk result (OnTold (F.told folder.old) (λ s. AllImages (RestoresTo s.now) (F.told folder.new))) }
         ensures shut { IfErr result (OnUnchanged (Step (F.told folder.old) (F.told folder.new) (λ s t. IsShut s → IsShut t))) }
         ensures may_be_open { IfErr result (OnRecover (OnTold (F.told folder.new) MayBeOpen)) }
-        ensures recover { IfErr result (OnRecover (OnTold (F.told folder.old) (λ s. AllImages (λ m. IsRestored m s.now) (F.told folder.new)))) }
+        ensures recover { IfErr result (OnRecover (OnTold (F.told folder.old) (λ s. AllImages (RestoresTo s.now) (F.told folder.new)))) }
         ensures undamaged { OnOk result (OnTold (F.told folder.old) (λ s. Finds (IsDamage s.now) None)) }
         ensures damaged { IfErr result (OnDamage (λ at. OnTold (F.told folder.old) (λ s. IsFirst (IsDamage s.now) at))) }
         ensures unchanged { IfErr result (OnDamage (λ at. Step (F.told folder.old) (F.told folder.new) (λ s t. t.now ≡ s.now))) }
@@ -89,7 +90,7 @@ fn begin_synced<F: Folder>(
     ensures begun { IfOk result (λ change. change ≡ begun) }
     ensures is_open { IfOk result (λ change. OnTold (F.told folder.new) (IsOpen change)) }
     ensures stays { Step (F.told folder.old) (F.told folder.new) (λ s t. SameOutside t.now s.now) }
-    ensures leaves { OnTold (F.told folder.old) (λ s. LeavesOnly F.told F.left_since folder.old folder.new (λ m. IsRestored m s.now)) }
+    ensures leaves { OnTold (F.told folder.old) (λ s. LeavesOnly F.told F.left_since folder.old folder.new (RestoresTo s.now)) }
     ensures shut { IfErr result (OnUnchanged (OnTold (F.told folder.new) IsShut)) }
     ensures may_be_open { IfErr result (OnRecover (OnTold (F.told folder.new) MayBeOpen)) }
     ensures undamaged { OnOk result (OnTold (F.told folder.old) (λ s. Finds (IsDamage s.now) None)) }

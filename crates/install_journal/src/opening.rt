@@ -9,7 +9,7 @@ ghost use Rattle.install_journal.specs.Closing.{MayBeOpen};
 ghost use Rattle.install_journal.specs.Open.{IsOpen};
 ghost use Rattle.install_journal.specs.Overlay.{SameOutside};
 ghost use Rattle.install_journal.specs.Preparing.{IsFresh, IsShut, OnUnchanged, OnRecover, NeverEither, begun};
-ghost use Rattle.install_journal.specs.Restored.{IsRestored};
+ghost use Rattle.install_journal.specs.Restored.{RestoresTo};
 ghost use Rattle.install_journal.specs.Undoing.{IsFailure, OnDamage};
 
 use crate::change::Change;
@@ -28,7 +28,7 @@ pub(crate) fn open_gate<F: Folder>(
     ensures begun { IfOk result (λ change. change ≡ begun) }
     ensures is_open { IfOk result (λ change. OnTold (F.told folder.new) (IsOpen change)) }
     ensures stays { Step (F.told folder.old) (F.told folder.new) (λ s t. SameOutside t.now s.now) }
-    ensures leaves { OnTold (F.told folder.old) (λ s. LeavesOnly F.told F.left_since folder.old folder.new (λ m. IsRestored m s.now)) }
+    ensures leaves { OnTold (F.told folder.old) (λ s. LeavesOnly F.told F.left_since folder.old folder.new (RestoresTo s.now)) }
     ensures shut { IfErr result (OnUnchanged (OnTold (F.told folder.new) IsShut)) }
     ensures may_be_open { IfErr result (OnRecover (OnTold (F.told folder.new) MayBeOpen)) }
     ensures never_damaged { IfErr result (OnDamage (λ at. ⊥)) }

@@ -8,7 +8,7 @@ ghost use Rattle.backup_store.specs.Looking.{IsStill};
 ghost use Rattle.install_journal.specs.Broken.{IsBroken, NamesDamage};
 ghost use Rattle.install_journal.specs.Closing.{IsSynced};
 ghost use Rattle.install_journal.specs.Preparing.{IsShut, NeverEither, OnRecover, OnUnchanged};
-ghost use Rattle.install_journal.specs.Recovering.{IsLeftOrRestores, PutsAllBack, Recovers, RestoresToo, SettlesWhatRestores};
+ghost use Rattle.install_journal.specs.Recovering.{IsLeftOrRestores, OnNoMemoryUnchanged, PutsAllBack, Recovers, RestoresToo, SettlesWhatRestores};
 ghost use Rattle.install_journal.specs.Restored.{IsRestored};
 ghost use Rattle.install_journal.specs.Undoing.{IsFailure, OnDamage};
 
@@ -30,7 +30,8 @@ pub enum Recovered {
 }
 
 /// Ends a change that a crash cut off, or that was left: syncs, puts back all entries that count, and closes the gate. Where
-/// the gate is closed, nothing is changed. A crash inside it leaves a folder from which a recovery reaches the same.
+/// the gate is closed, nothing is changed. A crash inside it leaves a folder from which a recovery reaches the same. Below
+/// `.p2` nothing is ever put.
 ///
 /// `Damaged` comes exactly where the gate is open and the entries that count can't be put back, and nothing is changed then.
 /// It names the file of the first entry whose file is no entry's text or whose path is the root, `.p2` or below `.p2`; else,
@@ -38,7 +39,7 @@ pub enum Recovered {
 /// path to be put back whose parent would be no directory. It never comes over what a change or a recovery left.
 ///
 /// `Failed` and `NoMemory` say `Unchanged` before the first path is to be put back, and `Recover` from then on, after which
-/// another recovery reaches the same.
+/// another recovery reaches the same. `NoMemory(Unchanged)` comes only once all is synced.
 ///
 /// The cost is near linear in the entries: their paths are sorted, and each entry is read twice.
 pub fn recover<F: Folder>(alloc: Global, folder: &mut F) -> Result<Recovered, JournalFault>
@@ -49,6 +50,7 @@ pub fn recover<F: Folder>(alloc: Global, folder: &mut F) -> Result<Recovered, Jo
     ensures leaves { OnTold (F.told folder.old) (λ s. LeavesOnly F.told F.left_since folder.old folder.new (IsLeftOrRestores s)) }
     ensures unchanged { IfErr result (OnUnchanged (Step (F.told folder.old) (F.told folder.new) (λ s t. t.now ≡ s.now))) }
     ensures shut { IfErr result (OnUnchanged (Step (F.told folder.old) (F.told folder.new) (λ s t. IsShut s → IsShut t))) }
+    ensures no_memory { IfErr result (OnNoMemoryUnchanged (OnTold (F.told folder.new) IsSynced)) }
     ensures recover { IfErr result (OnRecover (OnTold (F.told folder.old) (λ s. AllImages (RestoresToo s.now) (F.told folder.new)))) }
     ensures undamaged { OnOk result (OnTold (F.told folder.old) (λ s. (path : Items (Items ℕ)) → ¬ (IsBroken s.now path))) }
     ensures damaged { IfErr result (OnDamage (λ at. OnTold (F.told folder.old) (λ s. IsBroken s.now at))) }

@@ -15,8 +15,8 @@ use Rattle.folder_core.proofs.Moments.{holds_now, images_now, weaker}
 use Rattle.journal_caller.specs.Calls.{AreTouches, CanSetInTurn, IsOnTheWay, IsLeftOrOld, IsLeftOldOrNew, KeepsOld, set_in_turn}
 use Rattle.install_journal.specs.Closing.{OldOrNew}
 use Rattle.install_journal.specs.Overlay.{SameOutside}
-use Rattle.install_journal.specs.Restored.{IsRestored, IsSettled, RestoresLike, RestoresSame}
-use Rattle.install_journal.proofs.Counting.{restored_same, same_outside_sym, same_outside_then}
+use Rattle.install_journal.specs.Restored.{IsSettled, RestoresLike, RestoresSame, RestoresTo}
+use Rattle.install_journal.proofs.Counting.{restored_same, restores_then as restores_again, same_outside_sym, same_outside_then}
 use Rattle.install_journal.proofs.Runs.{on_told, on_each, on_both, at_told, Ran, more}
 use Rattle.install_journal.proofs.Undoings.{can_same, set_same}
 
@@ -62,15 +62,19 @@ split_at touches place touch below is =
 
 -- ---- what crashes leave
 
+-- what restores to the installation of a moment, and then to the same
+restores_on : (a b m : Map) → RestoresTo a b → RestoresLike b m → RestoresTo a m
+restores_on a b m first like = record { restores = like.restores a first.restores; foreign = λ path is. like.foreign path is ∙ first.foreign path is }
+
 restores_now : (a b d : Option Told) (R : Told → Told → Told → Type 0)
     → OnTold a (λ s. Step a b (R s))
     → OnTold b (λ t. IsImage t t.now)
-    → OnTold a (λ s. AllImages (λ m. IsRestored m s.now) b)
+    → OnTold a (λ s. AllImages (RestoresTo s.now) b)
     → OnTold b (λ t. AllImages (RestoresLike t.now) d)
-    → OnTold a (λ s. AllImages (λ m. IsRestored m s.now) d)
+    → OnTold a (λ s. AllImages (RestoresTo s.now) d)
 restores_now None b d R leads image each like = tt
 restores_now (Some s) None d R leads image each like = absurd leads
-restores_now (Some s) (Some t) d R leads image each like = λ m left. like m left s.now (each t.now image)
+restores_now (Some s) (Some t) d R leads image each like = λ m left. restores_on s.now t.now m (each t.now image) (like m left)
 
 step_at : (a b : Option Told) (s : Told) (R : Told → Told → Type 0) → a ≡ Some s → Step a b R → OnTold b (R s)
 step_at None b s R is step = absurd (let no : ⊥ = cc in no)
@@ -91,12 +95,12 @@ module _ {D : Type 0} (told : D → Option Told) (left_since : D → ℕ → Map
 
   -- what stands after `old` restores to the installation of then
   abbrev NowRestores : Told → Told → Type 0
-  NowRestores s t = IsRestored t.now s.now
+  NowRestores s t = RestoresTo s.now t.now
 
   now_restores : (old mid : D) (s : Told) → told old ≡ Some s → KeepsOld told left_since old mid → OnTold (told mid) (λ t. IsImage t t.now) → OnTold (told mid) (NowRestores s)
-  now_restores old mid s is keeps image = go (told mid) image (at_told (told old) s (λ t. AllImages (λ m. IsRestored m t.now) (told mid)) is keeps.restores)
+  now_restores old mid s is keeps image = go (told mid) image (at_told (told old) s (λ t. AllImages (RestoresTo t.now) (told mid)) is keeps.restores)
     where
-      go : (b : Option Told) → OnTold b (λ t. IsImage t t.now) → AllImages (λ m. IsRestored m s.now) b → OnTold b (NowRestores s)
+      go : (b : Option Told) → OnTold b (λ t. IsImage t t.now) → AllImages (RestoresTo s.now) b → OnTold b (NowRestores s)
       go None here each = tt
       go (Some t) here each = each t.now here
 
@@ -116,7 +120,7 @@ module _ {D : Type 0} (told : D → Option Told) (left_since : D → ℕ → Map
   keeps_on old mid new keeps image counts tells same = record {
     leaves = on_told (told old) _ (λ s is.
         (more told left_since old mid new (NowRestores s) (λ t. ⊤) (IsLeftOrOld s) (λ t u. ⊤) (λ t m. RestoresLike t.now m)
-        (ran_so_far old mid s is keeps image) tells same (λ t u restores call. tt) (λ t m restores like. inr (like s.now restores))).leaves);
+        (ran_so_far old mid s is keeps image) tells same (λ t u restores call. tt) (λ t m restores like. inr (restores_on s.now t.now m restores like))).leaves);
     restores = restores_now (told old) (told mid) (told new) (λ s t u. EachLeft t.moment u.moment (left_since old) (left_since mid) (IsLeftOrOld s)) keeps.leaves image keeps.restores
         (on_each (told mid) _ (λ t. AllImages (RestoresLike t.now) (told new)) (λ t leaves. images_now told left_since mid new (RestoresLike t.now) counts leaves) same);
   }
@@ -136,7 +140,8 @@ module _ {D : Type 0} (told : D → Option Told) (left_since : D → ℕ → Map
         leaves = weaker told left_since old mid (IsLeftOrOld s) (IsLeftOldOrNew (wanted s.now) s) (λ m left. inl left) ran.leaves;
       })
       tells leaves (λ t u restores call. tt)
-      (λ t m here either. ⊎_elim (λ like. inl (inr (like s.now here.0))) (λ now. inr (restored_same m t.now (wanted s.now) (same_outside_sym t.now (wanted s.now) here.1) now)) either)).leaves)
+      (λ t m here either. ⊎_elim (λ like. inl (inr (restores_on s.now t.now m here.0 like)))
+      (λ now. inr (restored_same m t.now (wanted s.now) (same_outside_sym t.now (wanted s.now) here.1) now.restores, (λ path is. now.foreign path is ∙ here.0.foreign path is))) either)).leaves)
 
   -- the old is left, the old or the new
   pub left_at_most : (old new : D) (wanted : Map → Map) → OnTold (told old) (λ s. LeavesOnly told left_since old new (IsLeftOrOld s))
@@ -154,7 +159,7 @@ module _ {D : Type 0} (told : D → Option Told) (left_since : D → ℕ → Map
       let leaves : LeavesOnly told left_since old mid (RestoresLike s.now) = at_told (told old) s (λ t. LeavesOnly told left_since old mid (RestoresLike t.now)) is first in
       (more told left_since old mid new (λ t. RestoresLike s.now t.now) (λ t. ⊤) (RestoresLike s.now) (λ t u. ⊤) (λ t m. RestoresLike t.now m)
       (record { holds = holds_now (told mid) (RestoresLike s.now) image (images_now told left_since old mid (RestoresLike s.now) counts leaves); leaves = leaves })
-      tells second (λ t u like call. tt) (λ t m like more restored old_restores. more restored (like restored old_restores))).leaves)
+      tells second (λ t u like call. tt) (λ t m like more. restores_again s.now t.now m like more)).leaves)
 
   -- the old is the old or the new
   pub old_at_most : (old new : D) → RestoresSame told left_since old new → OnTold (told old) (λ s. LeavesOnly told left_since old new (OldOrNew s.now))

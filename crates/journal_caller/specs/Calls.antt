@@ -8,7 +8,8 @@ use Rattle.folder_core.specs.Step.{OnTold}
 use Rattle.folder_core.specs.declared.node.Touch.{Touch}
 use Rattle.backup_store.specs.Places.{IsOutside}
 use Rattle.install_journal.specs.Overlay.{SameOutside}
-use Rattle.install_journal.specs.Restored.{IsRestored}
+use Rattle.install_journal.specs.Restored.{IsRestored, RestoresTo}
+use Rattle.install_journal.specs.Tidy.{SameForeign}
 
 -- the map where each of these is set in turn
 abbrev pub set_in_turn : List Touch → Map → Map
@@ -37,14 +38,14 @@ pub record IsOnTheWay (touches rest : List Touch) (s t : Told) : Type 0 where
 
 -- A crash might have left the map at this moment, or it restores to the installation of this moment.
 abbrev pub IsLeftOrOld : Told → Map → Type 0
-IsLeftOrOld s m = IsImage s m ⊎ IsRestored m s.now
+IsLeftOrOld s m = IsImage s m ⊎ RestoresTo s.now m
 
--- And here it may also restore to another installation.
+-- And here it may also restore to another installation, and what isn't the journal's below `.p2` is as it was.
 abbrev pub IsLeftOldOrNew : Map → Told → Map → Type 0
-IsLeftOldOrNew wanted s m = IsLeftOrOld s m ⊎ IsRestored m wanted
+IsLeftOldOrNew wanted s m = IsLeftOrOld s m ⊎ (IsRestored m wanted × SameForeign s.now m)
 
 -- Whatever crash came since the earlier moment left what it might have left then, or the installation of then. One that
 -- comes now leaves the latter.
 pub record KeepsOld {D : Type 0} (told : D → Option Told) (left_since : D → ℕ → Map → Type 0) (old new : D) : Type 0 where
   pub leaves : OnTold (told old) (λ s. LeavesOnly told left_since old new (IsLeftOrOld s))
-  pub restores : OnTold (told old) (λ s. AllImages (λ m. IsRestored m s.now) (told new))
+  pub restores : OnTold (told old) (λ s. AllImages (RestoresTo s.now) (told new))

@@ -24,6 +24,7 @@ pub enum Outcome {
 /// Sets the nodes in turn, all or none of them.
 ///
 /// At `Old` whatever crash came or comes leaves the old installation, once recovered; at `New` the new one stands for good.
+/// Below `.p2` no crash leaves more than stood there, but at the journal's own places.
 /// `Either` comes only where the folder failed in this call, as the change was closed.
 pub fn set_in_turn<F: Folder>(alloc: Global, folder: &mut F, touches: &[Touch]) -> Outcome
     requires closed { OnTold (F.told folder.old) (λ s. ¬ (OpensGate s.now)) }

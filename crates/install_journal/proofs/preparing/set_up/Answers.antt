@@ -80,4 +80,5 @@ pub returns-clause-fresh : goal.returns-clause-fresh
 returns-clause-fresh g c =
     fresh_then g.F.Folder.told g.F.Folder.left_since c.args.folder.now c.make_directory.new.folder c.make_directory-2.new.folder c.clear_entries.new.folder c.sync.new.self c.args.places.now.journal c.args.places.now.entries c.requires.journal c.requires.entries c.requires.undamaged
     c.in_ok-make_directory.ensures.made c.make_directory.ensures.elsewhere c.make_directory-2.ensures.elsewhere c.clear_entries.ensures.spares c.in_ok-clear_entries.ensures.cleared
-    (still_prepared g.F.Folder.told g.F.Folder.left_since c.args.folder.now c.clear_entries.new.folder c.requires.prepared (both_move g.F.Folder.told g.F.Folder.left_since c.args.folder.now c.make_directory-2.new.folder c.clear_entries.new.folder (both_move g.F.Folder.told g.F.Folder.left_since c.args.folder.now c.make_directory.new.folder c.make_directory-2.new.folder c.make_directory.ensures.moves c.make_directory-2.ensures.moves) c.clear_entries.ensures.moves)) c.sync.ensures.stays c.in_ok-sync.ensures.synced c.in_ok-sync.ensures.settled
+    (still_prepared g.F.Folder.told g.F.Folder.left_since c.args.folder.now c.clear_entries.new.folder c.requires.prepared (both_move g.F.Folder.told g.F.Folder.left_since c.args.folder.now c.make_directory-2.new.folder c.clear_entries.new.folder (both_move g.F.Folder.told g.F.Folder.left_since c.args.folder.now c.make_directory.new.folder c.make_directory-2.new.folder c.make_directory.ensures.moves c.make_directory-2.ensures.moves) c.clear_entries.ensures.moves))
+    (g.met.F.Folder.image_now c.args.folder.now) (both_move g.F.Folder.told g.F.Folder.left_since c.args.folder.now c.make_directory-2.new.folder c.clear_entries.new.folder (both_move g.F.Folder.told g.F.Folder.left_since c.args.folder.now c.make_directory.new.folder c.make_directory-2.new.folder c.make_directory.ensures.moves c.make_directory-2.ensures.moves) c.clear_entries.ensures.moves) c.sync.ensures.stays c.in_ok-sync.ensures.synced c.in_ok-sync.ensures.settled

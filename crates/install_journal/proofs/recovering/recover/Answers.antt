@@ -2,7 +2,7 @@ use Rattle.std.specs.Bool.{⊤}
 use Rattle.folder_core.specs.Folder.{Map}
 use Rattle.install_journal.specs.Broken.{IsBroken}
 use Rattle.install_journal.proofs.Beginnings.{damage_each, unchanged_each}
-use Rattle.install_journal.proofs.Recoverings.{back_now, broken_never, left_then, once_left, recovers_then, settles_ok, shut_once, shut_then, undamaged_ok}
+use Rattle.install_journal.proofs.Recoverings.{back_now, broken_never, left_then, once_left, recovers_then, settles_ok, shut_once, shut_then, still_synced, synced_once, undamaged_ok}
 use Rattle.install_journal.proofs.recovering.recover.Goals as goal
 
 pub returns-in-Ok-clause-settles : goal.returns-in-Ok-clause-settles
@@ -51,3 +51,9 @@ returns-in-Err-clause-leaves g c =
 
 pub returns-in-Err-clause-shut : goal.returns-in-Err-clause-shut
 returns-in-Err-clause-shut g c = λ _. shut_once (g.F.Folder.told c.args.folder.now) (g.F.Folder.told c.sync.new.self) c.sync.ensures.crash
+
+pub returns-in-Ok-clause-no_memory : goal.returns-in-Ok-clause-no_memory
+returns-in-Ok-clause-no_memory g c =
+    let told = g.F.Folder.told in
+    still_synced c.recover_synced.result (told c.sync.new.self) (told c.recover_synced.new.folder)
+    (synced_once (told c.args.folder.now) (told c.sync.new.self) c.sync.ensures.stays c.in-Ok.ensures.synced c.in-Ok.ensures.settled) c.recover_synced.ensures.unchanged

@@ -2,7 +2,7 @@ use Rattle.folder_core.specs.Folder.{SameBut}
 use Rattle.backup_store.specs.Places.{gate_path}
 use Rattle.install_journal.proofs.Abandonings.{end_settles, end_old, end_tells, end_may_be, on_ok_each, on_err_each}
 use Rattle.install_journal.proofs.Backs.{open_may_be}
-use Rattle.install_journal.proofs.Finishings.{mid_opens, mid_synced}
+use Rattle.install_journal.proofs.Finishings.{mid_opens, mid_synced, closed_gone}
 use Rattle.install_journal.proofs.Opens.{looks_of, looked_open, looked_restores}
 use Rattle.install_journal.proofs.change.Change.close_old.Goals as goal
 
@@ -47,3 +47,7 @@ returns-in-Err-clause-open_gate g c =
     (looked_open g.F.Folder.told g.F.Folder.left_since c.args.self.now c.args.folder.now c.sync.new.self c.requires.«open»
     (looks_of g.F.Folder.told g.F.Folder.left_since c.args.folder.now c.sync.new.self c.sync.ensures.stays c.in-Err.ensures.failed c.in-Err.ensures.untouched c.sync.ensures.time))
     (g.met.F.Folder.image_now c.sync.new.self)
+
+pub returns-in-Ok-clause-gate_gone : goal.returns-in-Ok-clause-gate_gone
+returns-in-Ok-clause-gate_gone g c =
+    on_ok_each c.close.result _ _ (λ closed. closed_gone (g.F.Folder.told c.sync.new.self) (g.F.Folder.told c.close.new.folder) closed) c.close.ensures.closed

@@ -1,10 +1,10 @@
-use Rattle.install_journal.proofs.Finishings.{same_restores, old_or_new, mid_synced, mid_opens, end_restores, end_leaves, end_open, end_settled}
+use Rattle.install_journal.proofs.Finishings.{same_restores, old_or_new, mid_synced, mid_opens, end_restores, end_leaves, end_open, end_settled, closed_gone, none_synced}
 use Rattle.install_journal.proofs.Opens.{open_spoiled, looks_of, looked_open, looked_restores}
 use Rattle.install_journal.proofs.Runs.{on_each}
 use Rattle.install_journal.specs.Open.{IsOpen, spoiled}
 use Rattle.backup_store.specs.Places.{gate_path}
 use Rattle.folder_core.specs.Folder.{SameBut}
-use Rattle.std.proofs.Common.{rules}
+use Rattle.std.proofs.Common.{rules, inl, inr, refl}
 use Rattle.install_journal.proofs.change.Change.finish.Goals as goal
 
 pub returns-in_default-clause-restores : goal.returns-in_default-clause-restores
@@ -86,3 +86,14 @@ returns-clause-leaves g c =
     end_leaves g.F.Folder.told g.F.Folder.left_since c.args.self c.args.folder.now c.requires.«open» (g.met.F.Folder.image_now c.args.folder.now) (g.met.F.Folder.only_now c.args.folder.now)
     c.sync.new.self c.sync.ensures.stays c.in-Ok-sync.ensures.synced c.in-Ok-sync.ensures.settled c.sync.ensures.time
     c.close.new.folder (λ s t. SameBut gate_path s.now t.now) c.close.ensures.elsewhere c.close.ensures.leaves
+
+pub returns-in-Ok-close-clause-gate_gone : goal.returns-in-Ok-close-clause-gate_gone
+returns-in-Ok-close-clause-gate_gone g c =
+    closed_gone (g.F.Folder.told c.sync.new.self) (g.F.Folder.told c.close.new.folder) c.in-Ok-close.ensures.closed
+
+pub returns-in_default-clause-no_memory : goal.returns-in_default-clause-no_memory
+returns-in_default-clause-no_memory g c = inl refl
+
+pub returns-in-Err-NoMemory-clause-no_memory : goal.returns-in-Err-NoMemory-clause-no_memory
+returns-in-Err-NoMemory-clause-no_memory g c =
+    inr (none_synced (g.F.Folder.told c.sync.new.self) (g.F.Folder.told c.close.new.folder) (c.in-Err-NoMemory.ensures.no_memory (search (rules, c.in-Err-NoMemory.field-0-is))))

@@ -1,0 +1,3 @@
+pub mod HintLaws
+pub mod MarkLaws
+pub mod LearnedLaws

@@ -1,29 +1,15 @@
-//! The program: the host behind the traits of the outside, and `main`.
+//! The program: `main`, which hands the host to the command.
 #![tactic(auto)]
 
 ghost use Rattle.std.specs.Prelude.{◌≡◌};
 ghost use Rattle.std.specs.Process.{exit_status};
 ghost use Rattle.director_words.specs.Status.{code_of};
 
-mod arguments;
-mod faults;
-mod host_folder;
-mod host_place;
-mod host_read;
-mod host_tree;
-mod host_write;
-mod std_input;
-mod std_sink;
-
-use arguments::{Arguments, ArgumentsFault};
 use director_core::run;
 use director_words::{Status, short_line};
-use folder_core::{After, Sink};
-use host_folder::HostFolder;
-use host_tree::HostTree;
+use folder_core::After;
+use host_adapters::{Arguments, ArgumentsFault, HostFolder, HostTree, StdInput, StdSink};
 use std::process::ExitCode;
-use std_input::StdInput;
-use std_sink::StdSink;
 
 fn main(rt: HostRuntime) -> ExitCode {
     let status = match Arguments::read(&rt) {
@@ -43,21 +29,17 @@ fn exit(status: &Status) -> ExitCode
 
 /// Performs the command, which prints its own lines.
 fn perform(rt: HostRuntime, arguments: Arguments) -> Status {
-    let mut out = StdSink::new(rt.stdout());
-    perform_to(rt, arguments, &mut out)
-}
-
-fn perform_to<K: Sink>(rt: HostRuntime, arguments: Arguments, out: &mut K) -> Status {
     let mut folder = HostFolder::new(rt, arguments.folder);
     let mut source = HostTree::new(rt, arguments.source);
     let mut input = StdInput::new(rt.reader());
+    let mut out = StdSink::new(rt.stdout());
     run(
         rt.alloc(),
         arguments.words.as_slice(),
         &mut folder,
         &mut source,
         &mut input,
-        out,
+        &mut out,
     )
 }
 
@@ -68,12 +50,3 @@ fn refused(rt: HostRuntime, status: Status) -> Status
     let _ = rt.write_all(short_line(&status));
     status
 }
-
-#[cfg(test)]
-mod install_tests;
-#[cfg(test)]
-mod stream_tests;
-#[cfg(test)]
-mod tests;
-#[cfg(test)]
-mod write_tests;

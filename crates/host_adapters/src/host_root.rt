@@ -52,16 +52,16 @@ impl<R: Files<File = F> + AllocGlobal + Clone + Drop, F: Lockable + Drop> HostRo
         Ok(true)
     }
 
-    /// Makes a root that isn't there, and locks it. What another process put there in the meantime is a fault.
+    /// Makes a root that isn't there, and locks it. What another process put there in the meantime is a fault, and each
+    /// later call is one then.
     pub fn make(&mut self) -> Result<(), Failed> {
         make_root(&self.runtime, self.text.as_str())?;
         let file = changed(lock(&self.runtime, self.text.as_str()))?;
-        self.hold = Hold::Locked(file);
-        if changed(is_empty(&self.runtime, self.text.as_str()))? {
-            Ok(())
-        } else {
-            Err(Failed)
+        if !changed(is_empty(&self.runtime, self.text.as_str()))? {
+            return Err(Failed);
         }
+        self.hold = Hold::Locked(file);
+        Ok(())
     }
 }
 

@@ -18,30 +18,49 @@ pub struct Objects {
 impl Objects {
     pub fn new(alloc: Global) -> Result<Objects, NoMemory> {
         let sink = MemorySink::new(alloc, 0, List::new(alloc))?;
-        Ok(Objects {
+        Ok(Objects::with_sink(alloc, sink))
+    }
+
+    fn with_sink(alloc: Global, sink: MemorySink) -> Objects {
+        Objects {
             folder: MemoryFolder::new(alloc),
             tree: MemoryTree::new(alloc),
             input: MemoryInput::new(alloc, List::new(alloc), List::new(alloc)),
             sink,
-        })
+        }
     }
 }
 
-/// The answer to a row.
-pub fn respond(alloc: Global, objects: &mut Objects, row: &Row) -> Result<Vec<u8>, NoMemory> {
+/// The line that answers a row.
+pub fn answer(alloc: Global, objects: &mut Objects, row: &str) -> Result<Vec<u8>, NoMemory> {
     let mut line = Vec::new(alloc);
-    match about(alloc, objects, row, &mut line) {
-        Ok(true) => Ok(line),
-        Ok(false) => word(alloc, b"unknown"),
-        Err(RowFault::Spelling) => word(alloc, b"unreadable"),
+    push_answer(alloc, objects, row, &mut line)?;
+    line.push(b'\n')?;
+    Ok(line)
+}
+
+fn push_answer(
+    alloc: Global,
+    objects: &mut Objects,
+    row: &str,
+    line: &mut Vec<u8>,
+) -> Result<(), NoMemory> {
+    match Row::read(alloc, row.as_bytes())? {
+        Some(row) => push_told(about(alloc, objects, &row, line), line),
+        None => push(line, b"no-row"),
+    }
+}
+
+fn push_told(told: Result<bool, RowFault>, line: &mut Vec<u8>) -> Result<(), NoMemory> {
+    match told {
+        Ok(true) => Ok(()),
+        Ok(false) => push(line, b"unknown"),
+        Err(RowFault::Spelling) => {
+            line.clear();
+            push(line, b"unreadable")
+        }
         Err(RowFault::NoMemory) => Err(NoMemory),
     }
-}
-
-fn word(alloc: Global, word: &[u8]) -> Result<Vec<u8>, NoMemory> {
-    let mut line = Vec::new(alloc);
-    push(&mut line, word)?;
-    Ok(line)
 }
 
 /// Adds the answer to a line. False where no module knows the row's first word.

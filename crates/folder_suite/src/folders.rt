@@ -5,8 +5,8 @@ ghost use Rattle.folder_core.specs.Node.{IsNode, IsSmallAt};
 ghost use Rattle.folder_core.specs.Step.{OnTold};
 
 use crate::lines::{push, push_bool, push_count};
-use folder_core::{Failed, Folder, FolderError, Name, Node, Path};
-use folder_memory::{ImageFault, MemoryFolder};
+use folder_core::{Failed, Folder, FolderError, Name, Node, Path, Touch};
+use folder_memory::MemoryFolder;
 use folder_rows::{
     RowFault, arm, may_put, push_contents, push_image_fault, push_names, push_node, push_path,
     read_choice, read_node, read_path, word_of,
@@ -96,10 +96,17 @@ fn set(
     row: &Row,
     line: &mut Vec<u8>,
 ) -> Result<(), RowFault> {
+    Ok(push(line, word_of_set(alloc, folder, row)?.as_bytes())?)
+}
+
+fn word_of_set(
+    alloc: Global,
+    folder: &mut MemoryFolder,
+    row: &Row,
+) -> Result<&'static str, RowFault> {
     let path = read_path(alloc, row.field(1))?;
     let node = read_node(alloc, row.field(2))?;
-    let word = set_where_allowed(folder, &path, node.as_ref());
-    Ok(push(line, word.as_bytes())?)
+    Ok(set_where_allowed(folder, &path, node.as_ref()))
 }
 
 fn set_where_allowed(folder: &mut MemoryFolder, path: &Path, node: Option<&Node>) -> &'static str {
@@ -119,9 +126,16 @@ fn look(
     line: &mut Vec<u8>,
 ) -> Result<(), RowFault> {
     let path = read_path(alloc, row.field(1))?;
-    match look_of(alloc, folder, &path) {
-        Ok(node) => Ok(push_node(line, node.as_ref())?),
-        Err(error) => Ok(push(line, word_of(error).as_bytes())?),
+    Ok(push_looked(line, look_of(alloc, folder, &path))?)
+}
+
+fn push_looked(
+    line: &mut Vec<u8>,
+    looked: Result<Option<Node>, FolderError>,
+) -> Result<(), NoMemory> {
+    match looked {
+        Ok(node) => push_node(line, node.as_ref()),
+        Err(error) => push(line, word_of(error).as_bytes()),
     }
 }
 
@@ -132,9 +146,16 @@ fn kids(
     line: &mut Vec<u8>,
 ) -> Result<(), RowFault> {
     let path = read_path(alloc, row.field(1))?;
-    match kids_of(alloc, folder, &path) {
-        Ok(names) => Ok(push_kids(line, &names)?),
-        Err(error) => Ok(push(line, word_of(error).as_bytes())?),
+    Ok(push_told_kids(line, kids_of(alloc, folder, &path))?)
+}
+
+fn push_told_kids(
+    line: &mut Vec<u8>,
+    told: Result<List<Name>, FolderError>,
+) -> Result<(), NoMemory> {
+    match told {
+        Ok(names) => push_kids(line, &names),
+        Err(error) => push(line, word_of(error).as_bytes()),
     }
 }
 
@@ -158,22 +179,23 @@ fn crash(
     row: &Row,
     line: &mut Vec<u8>,
 ) -> Result<(), RowFault> {
-    match image_of(alloc, folder, row)? {
-        Ok(image) => {
-            *folder = image;
-            Ok(push(line, b"ok")?)
-        }
-        Err(fault) => Ok(push_image_fault(line, fault)?),
-    }
+    let choice = read_choice(alloc, folder, row, 1)?;
+    Ok(become_image(alloc, folder, &choice, line)?)
 }
 
-fn image_of(
+fn become_image(
     alloc: Global,
-    folder: &MemoryFolder,
-    row: &Row,
-) -> Result<Result<MemoryFolder, ImageFault>, RowFault> {
-    let choice = read_choice(alloc, folder, row, 1)?;
-    Ok(folder.image(alloc, &choice))
+    folder: &mut MemoryFolder,
+    choice: &List<Touch>,
+    line: &mut Vec<u8>,
+) -> Result<(), NoMemory> {
+    match folder.image(alloc, choice) {
+        Ok(image) => {
+            *folder = image;
+            push(line, b"ok")
+        }
+        Err(fault) => push_image_fault(line, fault),
+    }
 }
 
 fn image(
@@ -182,9 +204,19 @@ fn image(
     row: &Row,
     line: &mut Vec<u8>,
 ) -> Result<(), RowFault> {
-    match image_of(alloc, folder, row)? {
-        Ok(image) => Ok(show(&image, line)?),
-        Err(fault) => Ok(push_image_fault(line, fault)?),
+    let choice = read_choice(alloc, folder, row, 1)?;
+    Ok(show_image(alloc, folder, &choice, line)?)
+}
+
+fn show_image(
+    alloc: Global,
+    folder: &MemoryFolder,
+    choice: &List<Touch>,
+    line: &mut Vec<u8>,
+) -> Result<(), NoMemory> {
+    match folder.image(alloc, choice) {
+        Ok(image) => show(&image, line),
+        Err(fault) => push_image_fault(line, fault),
     }
 }
 

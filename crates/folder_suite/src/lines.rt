@@ -1,5 +1,5 @@
 use folder_rows::RowFault;
-use osgi_version::{NoMemory, push_field};
+use osgi_version::{NoMemory, Text, push_field};
 use std::alloc::Global;
 use std::cmp::Ordering;
 use suite_row::Row;
@@ -47,14 +47,24 @@ pub fn count_at(row: &Row, place: usize) -> Result<u64, RowFault> {
     }
 }
 
-/// A piece so many times, with something between each two.
-pub fn repeated(alloc: Global, piece: &str, between: &str, count: u64) -> Result<String, NoMemory> {
+/// The text of a piece so many times, with something between each two.
+pub fn repeated(alloc: Global, piece: &str, between: &str, count: u64) -> Result<Text, NoMemory> {
     let mut text = String::new(alloc);
+    push_repeated(&mut text, piece, between, count)?;
+    Text::from_str(alloc, text.as_str())
+}
+
+fn push_repeated(
+    text: &mut String,
+    piece: &str,
+    between: &str,
+    count: u64,
+) -> Result<(), NoMemory> {
     for place in 0..count {
         if place > 0 {
             text.push_str(between)?;
         }
         text.push_str(piece)?;
     }
-    Ok(text)
+    Ok(())
 }

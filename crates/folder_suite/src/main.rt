@@ -11,41 +11,31 @@ mod paths;
 mod streams;
 mod trees;
 
-use answer::{Objects, respond};
+use answer::{Objects, answer};
 use osgi_version::NoMemory;
-use std::alloc::Global;
 use std::io;
-use suite_row::Row;
 
 fn main(rt: HostRuntime) -> io::Result<()> {
-    let Ok(mut objects) = Objects::new(rt.alloc()) else {
-        return println!(rt; "no-memory");
-    };
+    match Objects::new(rt.alloc()) {
+        Ok(mut objects) => print_answers(rt, &mut objects),
+        Err(NoMemory) => rt.write_all(b"no-memory\n"),
+    }
+}
+
+fn print_answers(rt: HostRuntime, objects: &mut Objects) -> io::Result<()> {
     for line in rt.lines(rt.alloc()) {
-        let line = line?;
-        if is_row(line.as_str()) {
-            let told = told(rt.alloc(), &mut objects, line.as_str());
-            println!(rt; "{}", text_of(&told))?;
-        }
+        print_answer(rt, objects, line?.as_str())?;
     }
     Ok(())
 }
 
 // A line that is empty or begins with `#` is a comment.
-fn is_row(line: &str) -> bool {
-    !line.is_empty() && !line.starts_with('#')
-}
-
-fn told(alloc: Global, objects: &mut Objects, line: &str) -> Result<Vec<u8>, NoMemory> {
-    match Row::read(alloc, line.as_bytes())? {
-        Some(row) => respond(alloc, objects, &row),
-        None => Ok(Vec::from_slice(alloc, b"no-row")?),
+fn print_answer(rt: HostRuntime, objects: &mut Objects, line: &str) -> io::Result<()> {
+    if line.is_empty() || line.starts_with('#') {
+        return Ok(());
     }
-}
-
-fn text_of(told: &Result<Vec<u8>, NoMemory>) -> &str {
-    match told {
-        Ok(line) => str::from_utf8(line.as_slice()).unwrap_or("not-a-text"),
-        Err(NoMemory) => "no-memory",
+    match answer(rt.alloc(), objects, line) {
+        Ok(answer) => rt.write_all(answer.as_slice()),
+        Err(NoMemory) => rt.write_all(b"no-memory\n"),
     }
 }

@@ -39,16 +39,22 @@ fn push_copy(name: &Name, line: &mut Vec<u8>) -> Result<(), NoMemory> {
 // A name of a piece so many times: how many bytes it has, and the first of them.
 fn of_repeated(alloc: Global, row: &Row, line: &mut Vec<u8>) -> Result<(), RowFault> {
     let text = repeated(alloc, row.word(2), "", count_at(row, 3)?)?;
-    let text = Text::from_str(alloc, text.as_str())?;
-    match Name::new(&text)? {
-        Some(name) => Ok(push_length(&name, line)?),
-        None => Ok(push(line, b"no-name")?),
+    Ok(push_name_length(&text, line)?)
+}
+
+fn push_name_length(text: &Text, line: &mut Vec<u8>) -> Result<(), NoMemory> {
+    match Name::new(text)? {
+        Some(name) => push_length_of_copy(&name, line),
+        None => push(line, b"no-name"),
     }
 }
 
-fn push_length(name: &Name, line: &mut Vec<u8>) -> Result<(), NoMemory> {
+fn push_length_of_copy(name: &Name, line: &mut Vec<u8>) -> Result<(), NoMemory> {
     let twin = name.copy()?;
-    let bytes = twin.text().bytes();
+    push_length(twin.text().bytes(), line)
+}
+
+fn push_length(bytes: &[u8], line: &mut Vec<u8>) -> Result<(), NoMemory> {
     match bytes.first() {
         Some(first) => push_counted(line, bytes.len(), &[*first]),
         None => push(line, b"empty"),
@@ -69,7 +75,11 @@ fn push_compared(first: &Name, second: &Name, line: &mut Vec<u8>) -> Result<(), 
 }
 
 fn equal(row: &Row, line: &mut Vec<u8>) -> Result<(), RowFault> {
+    Ok(push_bool(line, are_equal(row)?)?)
+}
+
+fn are_equal(row: &Row) -> Result<bool, RowFault> {
     let first = name_of(row.field(2))?;
     let second = name_of(row.field(3))?;
-    Ok(push_bool(line, first == second)?)
+    Ok(first == second)
 }

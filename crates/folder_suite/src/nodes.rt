@@ -6,6 +6,7 @@ use folder_rows::{
 };
 use osgi_version::{List, NoMemory, Twin, push_field};
 use std::alloc::Global;
+use std::fmt;
 use suite_row::Row;
 
 /// Answers a row of nodes and what they are made of, by its second word.
@@ -46,16 +47,24 @@ fn push_copy(node: &Node, line: &mut Vec<u8>) -> Result<(), NoMemory> {
 }
 
 fn equal(alloc: Global, row: &Row, line: &mut Vec<u8>) -> Result<(), RowFault> {
+    Ok(push_bool(line, are_equal(alloc, row)?)?)
+}
+
+fn are_equal(alloc: Global, row: &Row) -> Result<bool, RowFault> {
     let first = some_node(alloc, row, 2)?;
     let second = some_node(alloc, row, 3)?;
-    Ok(push_bool(line, first == second)?)
+    Ok(first == second)
 }
 
 // Whether a node may stand at a path.
 fn may(alloc: Global, row: &Row, line: &mut Vec<u8>) -> Result<(), RowFault> {
+    Ok(push_bool(line, may_stand(alloc, row)?)?)
+}
+
+fn may_stand(alloc: Global, row: &Row) -> Result<bool, RowFault> {
     let path = read_path(alloc, row.field(2))?;
     let node = some_node(alloc, row, 3)?;
-    Ok(push_bool(line, node.may_stand_at(&path))?)
+    Ok(node.may_stand_at(&path))
 }
 
 fn touch(alloc: Global, row: &Row, line: &mut Vec<u8>) -> Result<(), RowFault> {
@@ -65,15 +74,23 @@ fn touch(alloc: Global, row: &Row, line: &mut Vec<u8>) -> Result<(), RowFault> {
 
 fn push_touch(touch: &Touch, line: &mut Vec<u8>) -> Result<(), NoMemory> {
     let twin = touch.copy()?;
-    push_path(line, &twin.path)?;
+    push_spelled(&twin, line)
+}
+
+fn push_spelled(touch: &Touch, line: &mut Vec<u8>) -> Result<(), NoMemory> {
+    push_path(line, &touch.path)?;
     line.push(b'=')?;
-    push_node(line, twin.node.as_ref())
+    push_node(line, touch.node.as_ref())
 }
 
 fn touches(alloc: Global, row: &Row, line: &mut Vec<u8>) -> Result<(), RowFault> {
+    Ok(push_bool(line, are_equal_touches(alloc, row)?)?)
+}
+
+fn are_equal_touches(alloc: Global, row: &Row) -> Result<bool, RowFault> {
     let first = read_touch(alloc, row.field(2))?;
     let second = read_touch(alloc, row.field(3))?;
-    Ok(push_bool(line, first == second)?)
+    Ok(first == second)
 }
 
 fn blob_of(alloc: Global, text: &str) -> Result<Blob, RowFault> {
@@ -91,9 +108,13 @@ fn blob(alloc: Global, row: &Row, line: &mut Vec<u8>) -> Result<(), RowFault> {
 
 fn push_blob(blob: &Blob, line: &mut Vec<u8>) -> Result<(), NoMemory> {
     let twin = blob.copy()?;
+    push_compared(&twin, blob, line)
+}
+
+fn push_compared(twin: &Blob, blob: &Blob, line: &mut Vec<u8>) -> Result<(), NoMemory> {
     push_field(line, twin.bytes())?;
     line.push(b' ')?;
-    push_bool(line, twin == *blob)
+    push_bool(line, *twin == *blob)
 }
 
 // A blob of so many zeros: how many it has.
@@ -129,40 +150,34 @@ fn word_after(after: After) -> &'static str {
 
 // What a fault says.
 fn says(row: &Row, line: &mut Vec<u8>) -> Result<(), RowFault> {
-    let alloc = *line.allocator();
-    let text = match row.word(2) {
-        "outside" => Failed.to_string(alloc),
-        "folder-failed" => FolderError::Failed.to_string(alloc),
-        "folder-no-memory" => FolderError::NoMemory.to_string(alloc),
-        "tree-failed" => TreeError::Failed.to_string(alloc),
-        "tree-too-large" => TreeError::TooLarge.to_string(alloc),
-        "tree-no-memory" => TreeError::NoMemory.to_string(alloc),
-        _ => return says_of_memory(row, line),
-    };
-    push_said(line, text.ok())
+    match row.word(2) {
+        "outside" => Ok(push_said(line, &Failed)?),
+        "folder-failed" => Ok(push_said(line, &FolderError::Failed)?),
+        "folder-no-memory" => Ok(push_said(line, &FolderError::NoMemory)?),
+        "tree-failed" => Ok(push_said(line, &TreeError::Failed)?),
+        "tree-too-large" => Ok(push_said(line, &TreeError::TooLarge)?),
+        "tree-no-memory" => Ok(push_said(line, &TreeError::NoMemory)?),
+        _ => says_of_memory(row, line),
+    }
 }
 
 fn says_of_memory(row: &Row, line: &mut Vec<u8>) -> Result<(), RowFault> {
-    let alloc = *line.allocator();
-    let text = match row.word(2) {
-        "not-touched" => ImageFault::NotTouched {
-            place: count_at(row, 3)?,
+    match row.word(2) {
+        "not-touched" => {
+            let place = count_at(row, 3)?;
+            Ok(push_said(line, &ImageFault::NotTouched { place })?)
         }
-        .to_string(alloc),
-        "not-well-formed" => ImageFault::NotWellFormed.to_string(alloc),
-        "image-no-memory" => ImageFault::NoMemory.to_string(alloc),
-        "not-a-folder" => PutFault::NotAFolder.to_string(alloc),
-        "put-no-memory" => PutFault::NoMemory.to_string(alloc),
-        _ => return Err(RowFault::Spelling),
-    };
-    push_said(line, text.ok())
+        "not-well-formed" => Ok(push_said(line, &ImageFault::NotWellFormed)?),
+        "image-no-memory" => Ok(push_said(line, &ImageFault::NoMemory)?),
+        "not-a-folder" => Ok(push_said(line, &PutFault::NotAFolder)?),
+        "put-no-memory" => Ok(push_said(line, &PutFault::NoMemory)?),
+        _ => Err(RowFault::Spelling),
+    }
 }
 
-fn push_said(line: &mut Vec<u8>, text: Option<String>) -> Result<(), RowFault> {
-    match text {
-        Some(text) => Ok(push(line, text.as_bytes())?),
-        None => Err(RowFault::NoMemory),
-    }
+fn push_said(line: &mut Vec<u8>, said: &impl fmt::Display) -> Result<(), NoMemory> {
+    let text = format!(in *line.allocator(); "{said}")?;
+    push(line, text.as_bytes())
 }
 
 // What a fault of the outside or of memory is to a folder or a tree.

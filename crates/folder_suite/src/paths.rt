@@ -41,20 +41,27 @@ fn push_spelled(path: &Path, line: &mut Vec<u8>) -> Result<(), NoMemory> {
 // A path of one name so many times: how many names it has, and how many bytes its text.
 fn of_repeated(alloc: Global, row: &Row, line: &mut Vec<u8>) -> Result<(), RowFault> {
     let text = repeated(alloc, row.word(2), "/", count_at(row, 3)?)?;
-    let text = Text::from_str(alloc, text.as_str())?;
-    match Path::read(alloc, &text)? {
-        Some(path) => Ok(push_lengths(&path, &text, line)?),
-        None => Ok(push(line, b"no-path")?),
+    Ok(push_path_lengths(alloc, &text, line)?)
+}
+
+fn push_path_lengths(alloc: Global, text: &Text, line: &mut Vec<u8>) -> Result<(), NoMemory> {
+    match Path::read(alloc, text)? {
+        Some(path) => push_lengths_of(&path, text, line),
+        None => push(line, b"no-path"),
     }
 }
 
-fn push_lengths(path: &Path, read: &Text, line: &mut Vec<u8>) -> Result<(), NoMemory> {
-    let text = path.text()?;
+fn push_lengths_of(path: &Path, read: &Text, line: &mut Vec<u8>) -> Result<(), NoMemory> {
     push_count(line, path.names().len() as u64)?;
+    let text = path.text()?;
+    push_lengths(&text, read, line)
+}
+
+fn push_lengths(text: &Text, read: &Text, line: &mut Vec<u8>) -> Result<(), NoMemory> {
     line.push(b' ')?;
     push_count(line, text.bytes().len() as u64)?;
     line.push(b' ')?;
-    push_bool(line, text == *read)
+    push_bool(line, *text == *read)
 }
 
 fn names(alloc: Global, row: &Row, line: &mut Vec<u8>) -> Result<(), RowFault> {
@@ -73,24 +80,36 @@ fn name_of(text: &Text) -> Result<Name, RowFault> {
 fn pushed(alloc: Global, row: &Row, line: &mut Vec<u8>) -> Result<(), RowFault> {
     let mut path = read_path(alloc, row.field(2))?;
     let name = name_of(row.field(3))?;
-    let has_room = path.push(name)?;
-    push_bool(line, has_room)?;
-    push(line, b" ")?;
-    Ok(push_spelled(&path, line)?)
+    Ok(push_longer(&mut path, name, line)?)
+}
+
+fn push_longer(path: &mut Path, name: Name, line: &mut Vec<u8>) -> Result<(), NoMemory> {
+    push_bool(line, path.push(name)?)?;
+    line.push(b' ')?;
+    push_spelled(path, line)
 }
 
 // Pushes a name so many times to the root: how often that was done, and how many names the path has.
 fn filled(alloc: Global, row: &Row, line: &mut Vec<u8>) -> Result<(), RowFault> {
     let mut path = Path::root(alloc);
+    let taken = fill(&mut path, row.field(2), count_at(row, 3)?)?;
+    Ok(push_filled(line, taken, &path)?)
+}
+
+fn fill(path: &mut Path, name: &Text, count: u64) -> Result<u64, RowFault> {
     let mut taken = 0u64;
-    for _ in 0..count_at(row, 3)? {
-        if path.push(name_of(row.field(2))?)? {
+    for _ in 0..count {
+        if path.push(name_of(name)?)? {
             taken = taken.saturating_add(1);
         }
     }
+    Ok(taken)
+}
+
+fn push_filled(line: &mut Vec<u8>, taken: u64, path: &Path) -> Result<(), NoMemory> {
     push_count(line, taken)?;
-    push(line, b" ")?;
-    Ok(push_count(line, path.names().len() as u64)?)
+    line.push(b' ')?;
+    push_count(line, path.names().len() as u64)
 }
 
 fn order(alloc: Global, row: &Row, line: &mut Vec<u8>) -> Result<(), RowFault> {
@@ -107,7 +126,11 @@ fn push_compared(first: &Path, second: &Path, line: &mut Vec<u8>) -> Result<(), 
 }
 
 fn equal(alloc: Global, row: &Row, line: &mut Vec<u8>) -> Result<(), RowFault> {
+    Ok(push_bool(line, are_equal(alloc, row)?)?)
+}
+
+fn are_equal(alloc: Global, row: &Row) -> Result<bool, RowFault> {
     let first = read_path(alloc, row.field(2))?;
     let second = read_path(alloc, row.field(3))?;
-    Ok(push_bool(line, first == second)?)
+    Ok(first == second)
 }

@@ -56,9 +56,13 @@ fn read(
     line: &mut Vec<u8>,
 ) -> Result<(), RowFault> {
     let mut into = room_of(alloc, room)?;
-    match read_of(input, into.as_mut_slice()) {
-        Ok(count) => Ok(push_counted(line, count, front_of(into.as_slice(), count))?),
-        Err(Failed) => Ok(push(line, b"failed")?),
+    Ok(push_read(input, into.as_mut_slice(), line)?)
+}
+
+fn push_read(input: &mut MemoryInput, into: &mut [u8], line: &mut Vec<u8>) -> Result<(), NoMemory> {
+    match read_of(input, into) {
+        Ok(count) => push_counted(line, count, front_of(into, count)),
+        Err(Failed) => push(line, b"failed"),
     }
 }
 

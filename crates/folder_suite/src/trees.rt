@@ -61,8 +61,17 @@ fn put(
 ) -> Result<(), RowFault> {
     let path = read_path(alloc, row.field(2))?;
     let node = read_node(alloc, row.field(3))?;
+    put_node(tree, &path, node.as_ref(), line)
+}
+
+fn put_node(
+    tree: &mut MemoryTree,
+    path: &Path,
+    node: Option<&Node>,
+    line: &mut Vec<u8>,
+) -> Result<(), RowFault> {
     match node {
-        Some(Node::File { blob, .. }) => Ok(put_blob(tree, &path, &blob, line)?),
+        Some(Node::File { blob, .. }) => Ok(put_blob(tree, path, blob, line)?),
         _ => Err(RowFault::Spelling),
     }
 }
@@ -90,9 +99,13 @@ fn kids(
     line: &mut Vec<u8>,
 ) -> Result<(), RowFault> {
     let path = read_path(alloc, row.field(2))?;
-    match kids_of(alloc, tree, &path) {
-        Ok(names) => Ok(push_kids(line, &names)?),
-        Err(error) => Ok(push(line, word_of_tree(error).as_bytes())?),
+    Ok(push_told(line, kids_of(alloc, tree, &path))?)
+}
+
+fn push_told(line: &mut Vec<u8>, told: Result<List<Name>, TreeError>) -> Result<(), NoMemory> {
+    match told {
+        Ok(names) => push_kids(line, &names),
+        Err(error) => push(line, word_of_tree(error).as_bytes()),
     }
 }
 
@@ -102,19 +115,19 @@ fn read(
     row: &Row,
     line: &mut Vec<u8>,
 ) -> Result<(), RowFault> {
-    let path = read_path(alloc, row.field(2))?;
     let limit = count_at(row, 3)?;
     if limit > MOST_LIMIT {
         return Err(RowFault::Spelling);
     }
-    match read_of(alloc, tree, &path, limit) {
-        Ok(found) => Ok(push_found(line, found)?),
-        Err(error) => Ok(push(line, word_of_tree(error).as_bytes())?),
-    }
+    let path = read_path(alloc, row.field(2))?;
+    Ok(push_found(line, read_of(alloc, tree, &path, limit))?)
 }
 
 // A file of a tree has no mode. It stands as one of the usual mode.
-fn push_found(line: &mut Vec<u8>, found: Option<Blob>) -> Result<(), NoMemory> {
-    let node = found.map(|blob| Node::File { mode: 0o644, blob });
-    push_node(line, node.as_ref())
+fn push_found(line: &mut Vec<u8>, found: Result<Option<Blob>, TreeError>) -> Result<(), NoMemory> {
+    match found {
+        Ok(Some(blob)) => push_node(line, Some(&Node::File { mode: 0o644, blob })),
+        Ok(None) => push_node(line, None),
+        Err(error) => push(line, word_of_tree(error).as_bytes()),
+    }
 }

@@ -1,0 +1,10 @@
+mod AsciiLemmas
+mod CaseNames
+mod CutLemmas
+mod KeyLaws
+mod NumberLemmas
+mod OrderLemmas
+mod PartAgain
+mod PartFound
+mod RowLemmas
+mod TableLemmas

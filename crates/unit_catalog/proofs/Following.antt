@@ -1,10 +1,10 @@
 -- How the indexes follow the units.
-use Rattle.std.proofs.Common.{◌≡◌, ℕ, ◌+◌, ◌<◌, ◌≤◌, ◌⊎◌, inl, inr, List, [], ◌∷◌, ◌++◌, length, get_or, refl, ap, sym, ◌∙◌, subst, arith, length-append}
-use Rattle.std.specs.Prelude.{Some, All, AllPairs, Contains, slice_get}
+use Rattle.std.proofs.Common.{◌≡◌, ℕ, ◌+◌, ◌<◌, ◌≤◌, ◌⊎◌, inl, inr, List, [], ◌∷◌, ◌++◌, length, get_or, ap, sym, ◌∙◌, subst, arith, length-append}
+use Rattle.std.specs.Prelude.{Some, Contains, slice_get}
 use Rattle.std.proofs.lemmas.Bool.{cases_order}
-use Rattle.std.proofs.lemmas.List.{get_or_append_left}
+use Rattle.std.proofs.lemmas.List.{get_or_append_left, get_or_default}
 use Rattle.std.proofs.Math.Seq.{get_or-append_seam}
-use Rattle.std.proofs.lemmas.Option.{slice_get-get_or, slice_get_within, get_or_from_slice_get, same_Some}
+use Rattle.std.proofs.lemmas.Option.{slice_get-get_or, slice_get_within, get_or_from_slice_get}
 use Rattle.ldap_filter.specs.EnvPairs.{EnvPair}
 use Rattle.unit_model.specs.Matches.{Matches}
 use Rattle.unit_model.specs.declared.name.UnitName.{UnitName}
@@ -13,8 +13,11 @@ use Rattle.unit_model.specs.declared.required.Required.{Required}
 use Rattle.unit_model.specs.declared.unit.Unit.{Unit as Package}
 use Rattle.unit_catalog.specs.Greatest.{IsOfId, Updates}
 use Rattle.unit_catalog.specs.Keys.{text_key, pair_key, name_key}
-use Rattle.unit_catalog.specs.Listed.{listed}
+use Rattle.unit_catalog.specs.Entered.{AreEntered}
+use Rattle.unit_catalog.specs.Listed.{listed, AreRising, Keeps}
 use Rattle.unit_catalog.specs.Indexed.{AllRise, LeadTo, AllKeep, AllKeepBelow, AreIndexed}
+use Rattle.unit_catalog.specs.Led.{AreLedTo}
+use Rattle.unit_catalog.specs.declared.index.Index.{Index}
 use Rattle.unit_catalog.specs.declared.indexes.Indexes.{Indexes}
 use Rattle.unit_catalog.proofs.Finding.{HasAll}
 use Rattle.unit_catalog.proofs.Numbers.{rises_higher}
@@ -91,10 +94,33 @@ ids_lead units indexes indexed id env = λ n u here wanted. subst (λ (text : Li
 pub updates_lead : (units : List Package) (indexes : Indexes) → AreIndexed units indexes → (name : UnitName) (env : List EnvPair) → HasAll units (Updates name env) (listed indexes.updates (text_key name.id))
 updates_lead units indexes indexed name env = λ n u here wanted. subst (λ (text : List ℕ). Contains (listed indexes.updates (text_key text)) n) wanted.same (indexed.lead n u here).update
 
-pub provided_lead : (units : List Package) (indexes : Indexes) → AreIndexed units indexes → (r : Required) → HasAll units (Matches r) (listed indexes.provided (pair_key r.namespace r.name))
-provided_lead units indexes indexed r = λ n u here matches.
+pub provided_led : (units : List Package) (indexes : Indexes) → AreIndexed units indexes → AreLedTo units indexes.provided
+provided_led units indexes indexed = record { rise = λ key. (indexed.rise.provided key).order; lead = λ n u here. (indexed.lead n u here).provided }
+
+pub provided_lead : (units : List Package) (provided : Index) → AreLedTo units provided → (r : Required) → HasAll units (Matches r) (listed provided (pair_key r.namespace r.name))
+provided_lead units provided led r = λ n u here matches.
     let p = matches.1 in
-    let entered : Contains (listed indexes.provided (pair_key (get_or u.provided matches.0 p).namespace (get_or u.provided matches.0 p).name)) n = (indexed.lead n u here).provided matches.0 p matches.2 in
-    let own : Contains (listed indexes.provided (pair_key p.namespace p.name)) n = subst (λ (q : Provided). Contains (listed indexes.provided (pair_key q.namespace q.name)) n) matches.3 entered in
-    subst (λ (name : List ℕ). Contains (listed indexes.provided (pair_key r.namespace name)) n) matches.4.name
-    (subst (λ (namespace : List ℕ). Contains (listed indexes.provided (pair_key namespace p.name)) n) matches.4.namespace own)
+    let entered : Contains (listed provided (pair_key (get_or u.provided matches.0 p).namespace (get_or u.provided matches.0 p).name)) n = led.lead n u here matches.0 p matches.2 in
+    let own : Contains (listed provided (pair_key p.namespace p.name)) n = subst (λ (q : Provided). Contains (listed provided (pair_key q.namespace q.name)) n) matches.3 entered in
+    subst (λ (name : List ℕ). Contains (listed provided (pair_key r.namespace name)) n) matches.4.name
+    (subst (λ (namespace : List ℕ). Contains (listed provided (pair_key namespace p.name)) n) matches.4.namespace own)
+
+-- one more unit that an index of capabilities leads to
+pub led_more : (units : List Package) (old new : Index) (place : ℕ) (unit : Package) → place < length units → unit ≡ get_or units place unit
+    → ((n : ℕ) (u : Package) → n < place → slice_get units n ≡ Some u → AreEntered old u.provided n) → Keeps old new → AreEntered new unit.provided place
+    → (n : ℕ) (u : Package) → n < place + 1 → slice_get units n ≡ Some u → AreEntered new u.provided n
+led_more units old new place unit inside is before kept entered n u below here =
+    elim (cases_order n place) [
+      | inl at ↦
+          let same : unit ≡ u = is ∙ (get_or_default units place unit u inside ∙ (ap (λ i. get_or units i u) (sym at) ∙ get_or_from_slice_get units n u u here)) in
+          subst (λ (v : Package). AreEntered new v.provided n) same (subst (λ m. AreEntered new unit.provided m) (sym at) entered)
+      | inr (inl early) ↦ λ k d within. kept _ n (before n u early here k d within)
+      | inr (inr late) ↦ absurd (omega arith)
+    ]
+
+pub led_all : (units : List Package) (index : Index) (place : ℕ) → AreRising place index → ((n : ℕ) (u : Package) → n < place → slice_get units n ≡ Some u → AreEntered index u.provided n) → length units ≤ place
+    → AreLedTo units index
+led_all units index place rise lead whole = record {
+  rise = λ key. (rise key).order;
+  lead = λ n u here. lead n u (let inside = slice_get_within units n u here in omega arith) here;
+}

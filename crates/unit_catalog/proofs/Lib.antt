@@ -1,4 +1,4 @@
-mod Adding
+pub mod Adding
 mod Finding
 mod Following
 mod Listing

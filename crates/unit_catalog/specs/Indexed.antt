@@ -1,5 +1,5 @@
 -- How the indexes of a catalog follow its units.
-use Rattle.std.specs.Prelude.{◌≡◌, ℕ, ◌+◌, ◌<◌, ◌≤◌, Some, List, Contains, length, slice_get}
+use Rattle.std.specs.Prelude.{◌≡◌, ℕ, ◌+◌, ◌≤◌, Some, List, Contains, length, slice_get}
 use Rattle.unit_model.specs.declared.unit.Unit.{Unit as Package}
 use Rattle.unit_catalog.specs.Entered.{AreEntered}
 use Rattle.unit_catalog.specs.Keys.{text_key, name_key}

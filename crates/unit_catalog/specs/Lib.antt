@@ -3,7 +3,9 @@ pub mod Entered
 pub mod Greatest
 pub mod Indexed
 pub mod Keys
+pub mod Led
 pub mod Listed
 pub mod Looking
 pub mod Named
+pub mod Order
 pub mod Providers

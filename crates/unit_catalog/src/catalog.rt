@@ -123,7 +123,12 @@ impl Catalog {
         ensures { IfOk result (AreProviders self.now required.now) }
     {
         let alloc = *self.units.allocator();
-        let found = providers_of(alloc, self.units.as_slice(), &self.indexes, required)?;
+        let found = providers_of(
+            alloc,
+            self.units.as_slice(),
+            &self.indexes.provided,
+            required,
+        )?;
         Ok(List::from_vec(found))
     }
 }

@@ -65,7 +65,8 @@ impl Indexes {
     }
 }
 
-fn enter_provided(
+/// Lets each of the capabilities lead to the number.
+pub(crate) fn enter_provided(
     alloc: Global,
     index: &mut Index,
     provided: &[Provided],

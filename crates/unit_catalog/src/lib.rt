@@ -8,7 +8,9 @@ mod indexes;
 mod keys;
 mod looking;
 mod lookups;
+mod provider_index;
 mod wanted;
 
 pub use catalog::Catalog;
 pub use fault::CatalogFault;
+pub use provider_index::ProviderIndex;

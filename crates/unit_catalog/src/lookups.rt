@@ -3,9 +3,11 @@
 ghost use Rattle.std.specs.Prelude.{IfOk};
 ghost use Rattle.unit_catalog.specs.Greatest.{IsGreatest, IsOfId, Updates};
 ghost use Rattle.unit_catalog.specs.Indexed.{AreIndexed};
+ghost use Rattle.unit_catalog.specs.Led.{AreLedTo};
 ghost use Rattle.unit_catalog.specs.Named.{IsNumberOf};
 ghost use Rattle.unit_catalog.specs.Providers.{AreProviders};
 
+use crate::index::Index;
 use crate::indexes::Indexes;
 use crate::keys::{name_key, pair_key, text_key};
 use crate::looking::{greatest, matching, named};
@@ -46,14 +48,14 @@ pub(crate) fn updater_of(
 pub(crate) fn providers_of(
     alloc: Global,
     units: &[Unit],
-    indexes: &Indexes,
+    provided: &Index,
     required: &Required,
 ) -> Result<Vec<u32>, AllocError>
-    requires { AreIndexed units.now indexes.now }
+    requires { AreLedTo units.now provided.now }
     ensures { IfOk result (λ found. AreProviders units.now required.now found.items) }
 {
     let key = pair_key(required.namespace.bytes(), required.name.bytes());
-    let numbers = indexes.provided.numbers(key);
+    let numbers = provided.numbers(key);
     let found = matching(alloc, units, numbers, required)?;
     Ok(found)
 }

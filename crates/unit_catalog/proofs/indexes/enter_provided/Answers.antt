@@ -1,4 +1,4 @@
-use Rattle.std.proofs.Common.{◌≡◌, ℕ, ◌∙◌, subst, List, take, take_all}
+use Rattle.std.proofs.Common.{◌≡◌, ◌∙◌, subst, List, take_all}
 use Rattle.std.specs.Prelude.{Contains}
 use Rattle.std.proofs.lemmas.List.Elements.{All-more}
 use Rattle.unit_model.specs.declared.provided.Provided.{Provided}

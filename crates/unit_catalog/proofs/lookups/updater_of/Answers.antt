@@ -1,4 +1,4 @@
-use Rattle.std.proofs.Common.{◌≡◌, ℕ, List, ap, sym, subst, ◌∙◌}
+use Rattle.std.proofs.Common.{◌≡◌, ap, sym, subst, ◌∙◌}
 use Rattle.unit_catalog.specs.Keys.{text_key}
 use Rattle.unit_catalog.specs.Listed.{listed}
 use Rattle.unit_model.specs.declared.unit.Unit.{Unit as Package}

@@ -1,7 +1,6 @@
-use Rattle.std.proofs.Common.{◌≡◌, ◌+◌, ◌++◌, [], ◌∷◌, ◌≤◌, length, length-append, ap, sym, ◌∙◌, subst, arith, rules, false}
+use Rattle.std.proofs.Common.{◌≡◌, ◌++◌, [], ◌∷◌, ◌≤◌, length, length-append, sym, ◌∙◌, subst, arith, rules}
 use Rattle.std.proofs.lemmas.Grind.{common_steps}
 use Rattle.std.specs.Prelude.{List}
-use Rattle.std.specs.Option.{is_some}
 use Rattle.unit_model.specs.declared.unit.Unit.{Unit as Package}
 use Rattle.unit_catalog.specs.Named.{IsNew}
 use Rattle.unit_catalog.proofs.Adding.{found_not_new, not_found_new, new_not_named, distinct_more}

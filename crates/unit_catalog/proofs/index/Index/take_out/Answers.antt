@@ -1,9 +1,7 @@
-use Rattle.std.proofs.Common.{◌≡◌, ℕ, ◌+◌, ◌<◌, cond, List, [], ◌∷◌, ap, sym, ◌∙◌, subst, rules, Vec, Global}
-use Rattle.std.specs.Prelude.{Some, Contains}
-use Rattle.std.specs.Ordering.{nat_cmp}
-use Rattle.std.specs.BTreeMap.{BTreeMap, get, is_at}
+use Rattle.std.proofs.Common.{ℕ, ◌+◌, ◌<◌, List, rules}
+use Rattle.std.specs.Prelude.{Contains}
 use Rattle.unit_catalog.specs.Listed.{RisesBelow}
-use Rattle.unit_catalog.proofs.Listing.{at_every_key, rises_found, here_found, here_none, rises_same}
+use Rattle.unit_catalog.proofs.Listing.{at_every_key, rises_found, here_found}
 use Rattle.unit_catalog.proofs.index.Index.take_out.Goals as goal
 
 pub pop_number-requires : goal.pop_number-requires

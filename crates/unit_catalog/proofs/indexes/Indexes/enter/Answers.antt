@@ -1,8 +1,8 @@
-use Rattle.std.proofs.Common.{◌≡◌, ℕ, List, ap, ◌∙◌, subst}
+use Rattle.std.proofs.Common.{ℕ, List, ap, ◌∙◌, subst}
 use Rattle.std.specs.Prelude.{Contains}
 use Rattle.unit_model.specs.declared.provided.Provided.{Provided}
 use Rattle.unit_catalog.specs.Entered.{AreEntered}
-use Rattle.unit_catalog.specs.Keys.{text_key, name_key}
+use Rattle.unit_catalog.specs.Keys.{text_key}
 use Rattle.unit_catalog.specs.Listed.{listed}
 use Rattle.unit_catalog.proofs.indexes.Indexes.enter.Goals as goal
 

@@ -9,7 +9,7 @@ use unit_catalog::Catalog;
 use unit_model::{Required, UnitName};
 
 /// The name of an id and a version's text. None where that is no version.
-fn name(alloc: Global, id: &Text, version: &Text) -> Result<Option<UnitName>, NoMemory> {
+pub(crate) fn name(alloc: Global, id: &Text, version: &Text) -> Result<Option<UnitName>, NoMemory> {
     match Version::parse(alloc, version.bytes()) {
         Ok(version) => Ok(Some(named(id, version)?)),
         Err(VersionFault::Bad { .. } | VersionFault::Raw) => Ok(None),

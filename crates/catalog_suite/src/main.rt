@@ -6,6 +6,7 @@ mod adding;
 mod looking;
 mod push;
 mod scene;
+mod slicing;
 
 use scene::Scene;
 use std::io::{self, BufRead, BufReader};

@@ -3,6 +3,7 @@
 use crate::adding::{push_added, push_chain};
 use crate::looking::{push_find, push_greatest, push_providers, push_sought, push_updater};
 use crate::push::{push_found, push_word};
+use crate::slicing::{push_size, push_slice};
 use ldap_filter::{Env, EnvFault};
 use osgi_version::NoMemory;
 use std::alloc::Global;
@@ -89,6 +90,8 @@ fn push_question(
         "updater" => push_updater(answer, alloc, scene, row),
         "providers" => push_providers(answer, &scene.catalog, row),
         "seek" => push_sought(answer, alloc, &scene.catalog, row),
+        "slice" => push_slice(answer, alloc, scene, row),
+        "size" => push_size(answer, alloc, scene, row),
         _ => push_word(answer, "no question"),
     }
 }

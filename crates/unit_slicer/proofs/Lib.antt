@@ -1,0 +1,6 @@
+mod AddingLaws
+mod FindingLaws
+mod MarkingLaws
+mod OrderLaws
+mod SliceLaws
+mod WholeCatalogLaws

@@ -1,0 +1,5 @@
+pub mod Adding
+pub mod Found
+pub mod Members
+pub mod NameOrder
+pub mod WholeCatalog

@@ -1,0 +1,10 @@
+pub mod AgendaLaws
+pub mod ClauseLaws
+pub mod EndLaws
+pub mod KeepLaws
+pub mod LevelLaws
+pub mod ModelLaws
+pub mod SearchLaws
+pub mod SpendingLaws
+pub mod WeightLaws
+pub mod WishLaws

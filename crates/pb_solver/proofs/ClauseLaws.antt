@@ -1,10 +1,10 @@
 -- A learned clause at the levels that stay.
-use Rattle.std.proofs.Common.{◌≡◌, ℕ, ◌+◌, ◌-◌, ◌<◌, ◌≤◌, Bool, true, not, cond, List, [], ◌∷◌, length, get_or, map, Option, Contains, All, refl, sym, ap, ◌∙◌, arith}
+use Rattle.std.proofs.Common.{◌≡◌, ℕ, ◌-◌, ◌<◌, ◌≤◌, Bool, true, cond, List, [], ◌∷◌, length, get_or, map, Option, Contains, refl, sym, ap, ◌∙◌, arith}
 use Rattle.std.proofs.lemmas.List.{get_or-map, length-map}
 use Rattle.std.proofs.lemmas.List.Sums.{sum_by-cons, get_or-le-sum_by}
-use Rattle.pb_core.specs.AtLeast.{AtLeast, clause}
-use Rattle.pb_core.specs.Slack.{reachable, Forces}
-use Rattle.pb_core.specs.Values.{value_of, has_truth, is_false, is_open}
+use Rattle.pb_core.specs.AtLeast.{clause}
+use Rattle.pb_core.specs.Slack.{reachable}
+use Rattle.pb_core.specs.Values.{value_of, is_false, is_open}
 use Rattle.pb_core.specs.declared.literal.Lit.{Lit}
 use Rattle.pb_core.specs.declared.literal.Term.{Term}
 use Rattle.pb_core.proofs.ValueLaws.{open_not_false}
@@ -13,8 +13,7 @@ use Rattle.pb_trail.specs.Trail.{IsTrail}
 use Rattle.pb_trail.specs.declared.trail.Trail.{Trail}
 use Rattle.pb_trail.proofs.AlongLaws.{Includes-open, before-Includes}
 use Rattle.clause_learning.specs.Asserting.{IsAsserting, IsAssertingBy}
-use Rattle.pb_solver.specs.Levels.{AreLevels, RestsAtLevels, values_at, last_of}
-use Rattle.pb_solver.proofs.LevelLaws.{start-le-last}
+use Rattle.pb_solver.specs.Levels.{values_at}
 
 abbrev term : Lit → Term
 term lit = record { coef = 1; lit = lit }
@@ -60,7 +59,3 @@ asserting_rests trail start floor first others good within by s h =
 pub learned_rests : (trail : Trail) (start floor : ℕ) (lits : List Lit) → IsTrail trail → start ≤ length trail.entries.items → IsAsserting trail start floor lits → (s : ℕ) → s < floor → Rests (values_at trail s) (clause lits)
 learned_rests trail start floor [] good within by s h = absurd by
 learned_rests trail start floor (first ∷ others) good within by s h = asserting_rests trail start floor first others good within by s h
-
-pub asserting_below : (trail : Trail) (start floor : ℕ) (lits : List Lit) → IsAsserting trail start floor lits → floor ≤ start
-asserting_below trail start floor [] by = absurd by
-asserting_below trail start floor (first ∷ others) by = by.below

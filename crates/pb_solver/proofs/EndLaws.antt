@@ -1,24 +1,23 @@
 -- What the end of a search shows.
-use Rattle.std.proofs.Common.{◌≡◌, ℕ, ◌+◌, ◌-◌, ◌<◌, ◌≤◌, Bool, List, [], ◌∷◌, ◌++◌, length, get_or, take, map, replicate, Option, Some, None, refl, sym, ap, subst, ◌∙◌, ⊎_elim, arith}
+use Rattle.std.proofs.Common.{◌≡◌, ◌-◌, ◌<◌, ◌≤◌, List, [], ◌∷◌, ◌++◌, length, get_or, take, map, replicate, None, refl, sym, ap, subst, ◌∙◌, ⊎_elim, arith}
 use Rattle.std.proofs.lemmas.Bool.{cases_lt}
 use Rattle.std.proofs.lemmas.List.{take-append-le, take_all, get_or_push, get_or_append_left, length_push}
 use Rattle.pb_core.specs.AtLeast.{AtLeast, at_least}
 use Rattle.pb_core.specs.Fresh.{Fresh}
 use Rattle.pb_core.specs.Propagates.{ReachesViolation}
 use Rattle.pb_core.specs.Satisfied.{IsSatisfied, SatisfiesAll}
-use Rattle.pb_core.specs.Values.{value_of}
 use Rattle.pb_core.specs.declared.constraint.Constraint.{Constraint}
 use Rattle.deriv_check.specs.Database.{database, line_seen}
 use Rattle.deriv_check.specs.LineRule.{Checks}
-use Rattle.deriv_check.specs.Verdict.{CheckUpTo, EndsEmpty}
+use Rattle.deriv_check.specs.Verdict.{CheckUpTo}
 use Rattle.deriv_check.specs.declared.derivation.Line.{Line}
 use Rattle.pb_solver.specs.Answers.{IsModel, IsRefutation, IsSpent}
-use Rattle.pb_solver.specs.Ending.{EndsInModel, EndsInRefutation, EndsSpent}
-use Rattle.pb_solver.specs.Lines.{AreLearned, before_line}
-use Rattle.pb_solver.specs.SearchHolds.{SearchHolds, variables_of, problem_of, wish_of}
+use Rattle.pb_solver.specs.Ending.{EndsInModel, EndsSpent}
+use Rattle.pb_solver.specs.Lines.{before_line}
+use Rattle.pb_solver.specs.SearchHolds.{SearchHolds, variables_of, problem_of}
 use Rattle.pb_solver.specs.Values.{truths}
 use Rattle.pb_solver.specs.declared.search.Search.{Search}
-use Rattle.pb_solver.proofs.ModelLaws.{rest_satisfies, All-first, agreeing_value}
+use Rattle.pb_solver.proofs.ModelLaws.{rest_satisfies, All-first}
 use Rattle.pb_solver.proofs.WishLaws.{decided_quiet}
 
 pub ends_in_model : (search : Search) (constraints : List Constraint) → SearchHolds search → EndsInModel search → problem_of search ≡ map at_least constraints → IsModel (variables_of search) constraints search.levels.trail.kept.values
@@ -33,10 +32,6 @@ ends_in_model search constraints holds ends is = record {
 
     first : SatisfiesAll (truths search.levels.trail.kept.values) (problem_of search)
     first = All-first (λ (c : AtLeast). IsSatisfied (truths search.levels.trail.kept.values) c) (problem_of search) (map line_seen search.lines) (subst (λ (cs : List AtLeast). SatisfiesAll (truths search.levels.trail.kept.values) cs) holds.all all)
-
-pub model_wanted : (search : Search) → SearchHolds search → EndsInModel search → SatisfiesAll (wish_of search) (problem_of search) → (v : ℕ) → 0 < v → v ≤ variables_of search → value_of search.levels.trail.kept.values v ≡ Some (wish_of search v)
-model_wanted search holds ends sat v some most =
-    agreeing_value (wish_of search) search.levels.trail.kept.values v (holds.wish sat).agrees (ends.assigned v some most)
 
 check_over : (search : Search) (constraints : List Constraint) → SearchHolds search → problem_of search ≡ map at_least constraints → CheckUpTo (variables_of search) constraints search.lines (length search.lines)
 check_over search constraints holds is k d h =

@@ -1,5 +1,5 @@
 -- A learned clause where levels were taken back.
-use Rattle.std.proofs.Common.{◌≡◌, ℕ, ◌+◌, ◌-◌, ◌<◌, ◌≤◌, Bool, List, [], ◌∷◌, ◌++◌, length, get_or, take, Option, refl, sym, ap, subst, ◌∙◌, arith}
+use Rattle.std.proofs.Common.{◌≡◌, ℕ, ◌-◌, ◌<◌, Bool, List, [], ◌∷◌, ◌++◌, length, get_or, take, Option, sym, ap, subst, ◌∙◌, arith}
 use Rattle.std.proofs.lemmas.List.{take-take, get_or_append_left, length_push}
 use Rattle.pb_core.specs.AtLeast.{AtLeast, clause}
 use Rattle.pb_core.specs.ConstraintAt.{constraint_at}
@@ -7,7 +7,6 @@ use Rattle.pb_core.specs.Propagates.{IsAtRest}
 use Rattle.pb_core.specs.declared.literal.Lit.{Lit}
 use Rattle.pb_trail.specs.Along.{values_along, values_before}
 use Rattle.pb_trail.specs.Rest.{Rests, RestBefore}
-use Rattle.pb_trail.specs.declared.trail.Entry.{Entry}
 use Rattle.pb_trail.specs.declared.trail.Trail.{Trail}
 use Rattle.clause_learning.specs.Asserting.{IsAsserting}
 use Rattle.pb_solver.specs.Levels.{LevelsHold, RestsAtLevels, IsBack, values_at, last_of}

@@ -157,9 +157,6 @@ reasons_behind trail starts levels k d low within =
 pub reasons_first : (trail : Trail) (starts : List ℕ) → AreLevels trail starts → (m : ℕ) → ((i : ℕ) → i < length starts → m ≤ get_or starts i 0) → (k : ℕ) (d : Entry) → k < m → k < length trail.entries.items → 0 < (get_or trail.entries.items k d).reason
 reasons_first trail starts levels m all k d lt within = levels.forced k d within (λ i h e. absurd (omega (arith, all i h, e)))
 
-pub reasons_all : (trail : Trail) (starts : List ℕ) → AreLevels trail starts → starts ≡ [] → ReasonsFrom trail 0
-reasons_all trail starts levels none k d low within = levels.forced k d within (λ i h e. absurd (omega (arith, ap length none, h)))
-
 -- ---- how many levels stay
 
 -- some level goes, where the last begins at the floor or above

@@ -1,5 +1,5 @@
 -- Where all constraints rest and each variable has a value, the values satisfy.
-use Rattle.std.proofs.Common.{◌≡◌, ℕ, ◌+◌, ◌<◌, ◌≤◌, Bool, true, false, not, cond, List, [], ◌∷◌, ◌++◌, length, get_or, Option, Some, None, IsSome, IfSome, All, refl, sym, ap, subst, ◌∙◌, arith}
+use Rattle.std.proofs.Common.{ℕ, ◌<◌, ◌≤◌, Bool, true, false, not, cond, List, [], ◌∷◌, ◌++◌, length, get_or, Option, Some, None, IsSome, All, subst, arith}
 use Rattle.std.proofs.lemmas.Bool.{false≢true}
 use Rattle.std.proofs.lemmas.List.{get_or_append_left, length-append}
 use Rattle.std.proofs.lemmas.List.Elements.{All-head, All-tail}
@@ -10,7 +10,7 @@ use Rattle.pb_core.specs.Literal.{holds}
 use Rattle.pb_core.specs.Propagates.{IsAtRest}
 use Rattle.pb_core.specs.Satisfied.{true_sum, SatisfiesAll}
 use Rattle.pb_core.specs.Slack.{reachable}
-use Rattle.pb_core.specs.Values.{value_of, has_truth, is_false, Completes}
+use Rattle.pb_core.specs.Values.{value_of, has_truth, is_false}
 use Rattle.pb_core.specs.declared.literal.Term.{Term}
 use Rattle.pb_solver.specs.Values.{AreAssigned, truths}
 
@@ -45,11 +45,3 @@ rest_satisfies values cs rest keepable assigned k d h =
 pub All-first : (P : AtLeast → Type 0) (xs ys : List AtLeast) → All P (xs ++ ys) → All P xs
 All-first P xs ys all k d h =
     subst P (get_or_append_left xs ys d k h) (all k d (omega (arith, h, length-append xs ys)))
-
--- each variable's value is the one of an assignment that agrees
-pub agreeing_value : (full : ℕ → Bool) (values : List (Option Bool)) (v : ℕ) → Completes full values → IsSome (value_of values v) → value_of values v ≡ Some (full v)
-agreeing_value full values v agrees some = by (value_of values v) (agrees v) some
-  where
-    by : (o : Option Bool) → IfSome o (λ b. full v ≡ b) → IsSome o → o ≡ Some (full v)
-    by None h e = absurd (false≢true e)
-    by (Some b) h e = ap (λ (x : Bool). Some x) (sym h)

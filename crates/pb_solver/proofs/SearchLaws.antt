@@ -1,8 +1,8 @@
 -- A search that goes on.
-use Rattle.std.proofs.Common.{◌≡◌, ℕ, ◌+◌, ◌-◌, ◌*◌, ◌<◌, ◌≤◌, Bool, List, [], ◌∷◌, ◌++◌, length, get_or, take, map, Option, Some, Result, Ok, Err, refl, sym, ap, subst, ◌∙◌, ⊎_elim, arith}
+use Rattle.std.proofs.Common.{◌≡◌, ℕ, ◌-◌, ◌<◌, ◌≤◌, List, [], ◌∷◌, ◌++◌, length, get_or, take, map, Option, Some, Result, Ok, Err, refl, sym, ap, subst, ◌∙◌, ⊎_elim, arith}
 use Rattle.std.specs.Result.{OnErr}
 use Rattle.std.proofs.lemmas.Bool.{cases_lt}
-use Rattle.std.proofs.lemmas.List.{append-nil, append_assoc, length-append, length-map, take-append-le, take_all, get_or_push, get_or_append_left, length_push, map_push, length-take-le}
+use Rattle.std.proofs.lemmas.List.{append-nil, append_assoc, take-append-le, take_all, get_or_push, get_or_append_left, length_push, map_push}
 use Rattle.pb_core.specs.AtLeast.{AtLeast, clause}
 use Rattle.pb_core.specs.Fresh.{Fresh}
 use Rattle.pb_core.specs.Satisfied.{SatisfiesAll}
@@ -10,16 +10,15 @@ use Rattle.pb_core.specs.Values.{Completes}
 use Rattle.deriv_check.specs.Database.{line_seen}
 use Rattle.deriv_check.specs.LineRule.{Checks}
 use Rattle.deriv_check.specs.declared.derivation.Line.{Line}
-use Rattle.pb_trail.specs.Growth.{Extends, Grows, IsDecided}
+use Rattle.pb_trail.specs.Growth.{Extends}
 use Rattle.pb_trail.specs.Rest.{IsSettled}
-use Rattle.pb_trail.specs.declared.trail.Trail.{Trail}
-use Rattle.pb_solver.specs.Levels.{AreLevels, LevelsHold}
+use Rattle.pb_solver.specs.Levels.{LevelsHold}
 use Rattle.pb_solver.specs.Lines.{AreLearned, before_line}
-use Rattle.pb_solver.specs.SearchHolds.{SearchHolds, IsSameSearch, FollowsWish, variables_of, problem_of, wish_of}
+use Rattle.pb_solver.specs.SearchHolds.{SearchHolds, IsSameSearch, variables_of, problem_of, wish_of}
 use Rattle.pb_solver.specs.declared.agenda.Agenda.{Agenda}
 use Rattle.pb_solver.specs.declared.levels.Levels.{Levels}
 use Rattle.pb_solver.specs.declared.search.Search.{Search}
-use Rattle.pb_solver.proofs.WishLaws.{Completes-grown, violated_unwanted}
+use Rattle.pb_solver.proofs.WishLaws.{violated_unwanted}
 
 -- the search with other levels, and another conflict and agenda
 abbrev pub moved : Search → Levels → Option ℕ → Agenda → Search
@@ -125,19 +124,6 @@ SearchHolds-longer before levels agenda line holds good constraints variables ro
   where
     same : IsSameSearch before (longer before levels agenda line)
     same = same_longer before levels agenda line holds constraints variables
-
-pub same_through : (a b c : Search) → IsSameSearch a b → IsSameSearch b c → IsSameSearch a c
-same_through a b c e f = record {
-  problem = f.problem ∙ e.problem;
-  variables = f.variables ∙ e.variables;
-  wanted = f.wanted ∙ e.wanted;
-  budget = f.budget ∙ e.budget;
-}
-
--- how many constraints there are
-pub constraint_count : (search : Search) → SearchHolds search → length search.levels.trail.kept.constraints ≤ 1000050000
-constraint_count search holds =
-    omega (arith, ap length holds.all, length-append (problem_of search) (map line_seen search.lines), length-map search.lines line_seen, holds.few, holds.most, holds.budget)
 
 -- what holds anyway holds after an error
 pub on_err : {T E P : Type 0} (r : Result T E) → P → OnErr r P

@@ -1,5 +1,5 @@
 -- The bound on steps, and the turns that are left.
-use Rattle.std.proofs.Common.{◌≡◌, ℕ, zero, suc, ◌+◌, ◌-◌, ◌*◌, ◌<◌, ◌≤◌, List, [], ◌∷◌, ◌++◌, length, map, All, refl, sym, ap, subst, ◌∙◌, arith}
+use Rattle.std.proofs.Common.{◌≡◌, ℕ, ◌+◌, ◌-◌, ◌*◌, ◌<◌, ◌≤◌, List, [], ◌∷◌, ◌++◌, length, map, All, refl, sym, ap, ◌∙◌, arith}
 use Rattle.std.proofs.Math.Nat.{mul-le-mul_right, mul_assoc}
 use Rattle.std.proofs.lemmas.List.Sums.{sum_by-cons}
 use Rattle.pb_core.specs.AtLeast.{AtLeast, at_least}
@@ -8,7 +8,6 @@ use Rattle.deriv_check.specs.Database.{line_seen}
 use Rattle.deriv_check.specs.LineRule.{HasLiterals}
 use Rattle.deriv_check.specs.declared.derivation.Line.{Line}
 use Rattle.pb_trail.specs.Along.{weight}
-use Rattle.pb_trail.specs.Growth.{Extends}
 use Rattle.pb_trail.specs.Trail.{Counted}
 use Rattle.pb_trail.specs.declared.trail.Entry.{Entry}
 use Rattle.pb_trail.proofs.AlongLaws.{weight-none}

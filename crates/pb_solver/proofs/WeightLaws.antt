@@ -1,6 +1,5 @@
 -- How many slacks the entries of a trail changed.
-use Rattle.std.proofs.Common.{◌≡◌, ◌≢◌, ℕ, zero, suc, ◌+◌, ◌-◌, ◌*◌, ◌<◌, ◌≤◌, Bool, true, false, not, cond, ltb, eqb, ◌&&◌, List, [], ◌∷◌, ◌++◌, length, get_or, map, sum_by, count_by, All, AllPairs, refl, sym, ap, ◌∙◌, arith}
-use Rattle.std.proofs.lemmas.Bool.{false≢true}
+use Rattle.std.proofs.Common.{◌≡◌, ◌≢◌, ℕ, suc, ◌+◌, ◌*◌, ◌≤◌, Bool, true, false, cond, ltb, eqb, ◌&&◌, List, [], ◌∷◌, ◌++◌, length, map, sum_by, count_by, All, AllPairs, refl, sym, ap, ◌∙◌, arith}
 use Rattle.std.proofs.lemmas.Bool.Decides.{nat_tests}
 use Rattle.std.proofs.lemmas.List.{length-map}
 use Rattle.std.proofs.lemmas.List.Elements.{All-head, All-tail}
@@ -11,7 +10,7 @@ use Rattle.pb_core.specs.Occurrences.{coefficient, holds_literal}
 use Rattle.pb_core.specs.declared.literal.Lit.{Lit}
 use Rattle.pb_core.specs.declared.literal.Term.{Term}
 use Rattle.pb_trail.specs.Along.{weight}
-use Rattle.pb_trail.specs.Trail.{AreSteps, IsTrail}
+use Rattle.pb_trail.specs.Trail.{IsTrail}
 use Rattle.pb_trail.specs.declared.trail.Entry.{Entry}
 use Rattle.pb_trail.specs.declared.trail.Trail.{Trail}
 use Rattle.pb_trail.proofs.AlongLaws.{entries_apart, few_variables}

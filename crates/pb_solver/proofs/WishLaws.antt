@@ -1,19 +1,18 @@
 -- Values that agree with the wanted assignment, and what was forced from nothing.
-use Rattle.std.proofs.Common.{◌≡◌, ℕ, zero, suc, ◌+◌, ◌-◌, ◌<◌, ◌≤◌, Bool, true, false, not, cond, List, [], ◌∷◌, length, get_or, take, replicate, Option, Some, None, Contains, All, refl, sym, ap, subst, ◌∙◌, ⊎_elim, arith}
-use Rattle.std.proofs.lemmas.Bool.{cases_lt}
-use Rattle.std.proofs.lemmas.List.{get_or_default, take_all}
+use Rattle.std.proofs.Common.{◌≡◌, ℕ, zero, suc, ◌+◌, ◌-◌, ◌<◌, ◌≤◌, Bool, true, false, not, cond, List, [], length, get_or, replicate, Option, Some, None, Contains, refl, sym, ap, subst, ◌∙◌, arith}
+use Rattle.std.proofs.lemmas.List.{get_or_default}
 use Rattle.pb_core.specs.AtLeast.{AtLeast}
 use Rattle.pb_core.specs.ConstraintAt.{constraint_at}
 use Rattle.pb_core.specs.Literal.{holds}
-use Rattle.pb_core.specs.Propagates.{Propagates, nothing, forced, IsAtRest, ReachesViolation}
+use Rattle.pb_core.specs.Propagates.{Propagates, nothing, forced, ReachesViolation}
 use Rattle.pb_core.specs.Satisfied.{IsSatisfied, SatisfiesAll}
-use Rattle.pb_core.specs.Slack.{Forces, IsViolated}
+use Rattle.pb_core.specs.Slack.{Forces}
 use Rattle.pb_core.specs.Values.{make_true, Completes}
 use Rattle.pb_core.specs.declared.literal.Lit.{Lit}
 use Rattle.pb_core.proofs.PropagationLaws.{violation_or_rest}
 use Rattle.pb_core.proofs.SatisfactionLaws.{forced_holds, violated_has_no_completion}
 use Rattle.pb_core.proofs.ValueLaws.{Completes-make_true}
-use Rattle.pb_trail.specs.Along.{values_along, values_before}
+use Rattle.pb_trail.specs.Along.{values_before}
 use Rattle.pb_trail.specs.Growth.{Grows, IsDecided}
 use Rattle.pb_trail.specs.Rest.{IsSettled}
 use Rattle.pb_trail.specs.Trail.{AreSteps, IsTrail}

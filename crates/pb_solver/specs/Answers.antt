@@ -1,5 +1,5 @@
 -- What an answer shows.
-use Rattle.std.specs.Prelude.{◌≡◌, ℕ, ◌+◌, ◌<◌, ◌≤◌, Bool, List, Option, Some, None, IsSome, Ok, length, map, replicate, sum_by, take, slice_index_or}
+use Rattle.std.specs.Prelude.{◌≡◌, ℕ, ◌+◌, ◌<◌, ◌≤◌, Bool, List, Option, Some, None, Ok, length, map, replicate, sum_by, take, slice_index_or}
 use Rattle.pb_core.specs.AtLeast.{at_least}
 use Rattle.pb_core.specs.Fresh.{Fresh}
 use Rattle.pb_core.specs.Propagates.{ReachesViolation}

@@ -1,6 +1,5 @@
-use Rattle.std.proofs.Common.{ℕ, ◌≡◌, ◌≤◌, length, IsSome, sym, subst, ◌∙◌, ⊎_elim, arith}
+use Rattle.std.proofs.Common.{ℕ, ◌≡◌, sym, subst, ◌∙◌, ⊎_elim, arith}
 use Rattle.std.proofs.lemmas.Bool.{false≢true, cases_lt}
-use Rattle.pb_core.specs.Values.{value_of}
 use Rattle.pb_solver.specs.Values.{IsUnassigned}
 use Rattle.pb_solver.proofs.AgendaLaws.{assigned_else}
 use Rattle.pb_solver.proofs.agenda.first_open.Goals as goal

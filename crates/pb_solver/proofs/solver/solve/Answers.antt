@@ -1,8 +1,8 @@
-use Rattle.std.proofs.Common.{◌≡◌, ◌≤◌, ◌+◌, ◌*◌, ℕ, Bool, false, Vec, Global, List, length, get_or, map, sym, ap, subst, ◌∙◌, arith}
+use Rattle.std.proofs.Common.{◌≡◌, ℕ, Bool, false, Vec, Global, List, length, get_or, map, sym, ap, subst, ◌∙◌, arith}
 use mathlib.Core.Path.{fun_ext}
 use Rattle.pb_core.specs.AtLeast.{AtLeast, at_least}
 use Rattle.pb_core.specs.Satisfied.{SatisfiesAll}
-use Rattle.pb_solver.specs.Answers.{IsWanted, terms_of}
+use Rattle.pb_solver.specs.Answers.{IsWanted}
 use Rattle.pb_solver.specs.SearchHolds.{problem_of, wish_of}
 use Rattle.pb_solver.specs.Wanted.{is_wanted}
 use Rattle.pb_solver.proofs.SpendingLaws.{most_spent-same, most_spent_over, spent_most}

@@ -1,4 +1,3 @@
-use Rattle.std.proofs.Common.{refl}
 use Rattle.pb_core.specs.AtLeast.{clause}
 use Rattle.pb_solver.proofs.LevelLaws.{AreLevels-added}
 use Rattle.pb_solver.proofs.levels.Levels.add.Goals as goal

@@ -1,4 +1,4 @@
-use Rattle.std.proofs.Common.{◌≡◌, ◌<◌, length, refl, arith}
+use Rattle.std.proofs.Common.{arith}
 use Rattle.pb_solver.proofs.SearchLaws.{conflict_unwanted, same_itself}
 use Rattle.pb_solver.proofs.SpendingLaws.{fewer_longer}
 use Rattle.pb_solver.proofs.search.Search.take_conflict.Goals as goal

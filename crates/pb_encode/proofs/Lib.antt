@@ -1,0 +1,6 @@
+pub mod FoundLaws
+pub mod IdLaws
+pub mod MemberLaws
+pub mod PlaceLaws
+pub mod RowLaws
+pub mod UnitLaws

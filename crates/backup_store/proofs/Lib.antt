@@ -1,5 +1,8 @@
 pub mod Bools
+pub mod Filings
 pub mod Fronts
+pub mod InTurn
+pub mod KeepingAllLemmas
 pub mod KeepingLemmas
 pub mod Moments
 pub mod Names
@@ -7,4 +10,5 @@ pub mod PuttingLemmas
 pub mod Readings
 pub mod SettlingLemmas
 pub mod Texts
+pub mod Touched
 pub mod Unique

@@ -1,12 +1,13 @@
 -- The names of the journal's places are names, and tell the places apart.
-use Rattle.std.proofs.Common.{◌≡◌, ◌≢◌, ℕ, ◌+◌, ◌^◌, ◌<◌, ◌≤◌, List, [], ◌∷◌, ◌++◌, length, get_or, All, refl, ap, arith, lit≤, ⊎_elim, length-append}
+use Rattle.std.proofs.Common.{◌≡◌, ◌≢◌, ℕ, ◌+◌, ◌^◌, ◌<◌, ◌≤◌, List, [], ◌∷◌, ◌++◌, length, get_or, All, refl, ◌∙◌, ap, arith, lit≤, ⊎_elim, length-append}
 use Rattle.std.specs.Prelude.{codes}
 use Rattle.std.specs.Fmt.{decimal}
 use Rattle.std.specs.Str.{IsAscii}
 use Rattle.std.proofs.lemmas.Str.{IsUtf8-from_ascii}
 use Rattle.std.proofs.lemmas.Bool.{cases_lt}
-use Rattle.std.proofs.lemmas.Fmt.{length-decimal-le}
-use Rattle.std.proofs.lemmas.List.{get_or_past}
+use Rattle.std.proofs.lemmas.Fmt.{length-decimal-le, decimal_injective}
+use Rattle.std.proofs.Math.Seq.{get_or-append_seam}
+use Rattle.std.proofs.lemmas.List.{get_or_past, append_cancel_right}
 use Rattle.std.proofs.lemmas.List.Elements.{All-head, All-nil, All-cons, All-append, All-contains}
 use Rattle.folder_core.specs.Name.{IsName}
 use Rattle.folder_core.specs.Path.{IsPath}
@@ -84,3 +85,22 @@ mark_apart k is =
     let name : decimal k ++ codes ".ok" ≡ decimal k = ap (λ (p : List (List ℕ)). get_or p 2 []) is in
     let longer : length (decimal k ++ codes ".ok") ≡ length (decimal k) + 3 = length-append (decimal k) (codes ".ok") in
     omega (arith, longer, ap length name)
+
+-- Two entries have two files, and two marks, and no file is a mark.
+pub entries_apart : (a b : ℕ) → a < 2 ^ 32 → b < 2 ^ 32 → a ≢ b → entry_path a ≢ entry_path b
+entries_apart a b small_a small_b apart same = apart (decimal_injective a b (omega arith) (omega arith) (ap (λ (p : List (List ℕ)). get_or p 2 []) same))
+
+pub marks_apart : (a b : ℕ) → a < 2 ^ 32 → b < 2 ^ 32 → a ≢ b → mark_path a ≢ mark_path b
+marks_apart a b small_a small_b apart same =
+    apart (decimal_injective a b (omega arith) (omega arith) (append_cancel_right (decimal a) (decimal b) (codes ".ok") (ap (λ (p : List (List ℕ)). get_or p 2 []) same)))
+
+no_mark_name : (a b : ℕ) → a < 2 ^ 32 → decimal a ≢ decimal b ++ codes ".ok"
+no_mark_name a b small same =
+    let are = AreDigits-decimal a (omega arith) in
+    let long : length (decimal b) < length (decimal a) = omega (arith, ap length same, length-append (decimal b) (codes ".ok")) in
+    let dot : get_or (decimal a) (length (decimal b)) 0 ≡ 46 = ap (λ (l : List ℕ). get_or l (length (decimal b)) 0) same ∙ get_or-append_seam (decimal b) 46 (codes "ok") 0 in
+    let digit = are (length (decimal b)) 0 long in
+    absurd (omega (arith, dot, digit.0))
+
+pub entry_no_mark : (a b : ℕ) → a < 2 ^ 32 → entry_path a ≢ mark_path b
+entry_no_mark a b small same = no_mark_name a b small (ap (λ (p : List (List ℕ)). get_or p 2 []) same)

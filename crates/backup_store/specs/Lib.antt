@@ -1,10 +1,13 @@
 pub mod Entry
 pub mod EntryText
 pub mod Fault
+pub mod Filing
 pub mod Held
 pub mod Keeping
+pub mod KeepingAll
 pub mod Looking
 pub mod Parts
 pub mod Places
 pub mod PuttingBack
 pub mod Settling
+pub mod Turns

@@ -4,22 +4,18 @@ ghost use Rattle.folder_core.specs.Crash.{AllImages, IsImage, Elapses, LeavesOnl
 ghost use Rattle.folder_core.specs.Step.{OnTold, Step};
 ghost use Rattle.folder_core.specs.Folder.{CanSet};
 ghost use Rattle.folder_core.specs.Node.{IsNode};
-ghost use Rattle.folder_core.specs.declared.node.Node.TheVariants as node;
-ghost use Rattle.backup_store.specs.declared.fault.StoreFault.TheVariants as store_fault;
-ghost use Rattle.backup_store.specs.Entry.{IsEntry, IsSmall};
+ghost use Rattle.backup_store.specs.Entry.{IsEntry};
 ghost use Rattle.backup_store.specs.Fault.{IfDamaged};
 ghost use Rattle.backup_store.specs.Keeping.{HasRoom, HasNoMark, SameButEntry, HasCome, IsBegun, LeavesEntry, IsKept, IsCounted};
 ghost use Rattle.backup_store.specs.Places.{entry_path, mark_path, IsOutside};
 ghost use Rattle.backup_store.specs.Looking.{IsStill};
 ghost use Rattle.backup_store.specs.Settling.{IsTouchedImage, IsSettled, IsUnsettled, IsEntered, entry_touch, mark_touch};
 
-use crate::entry::{Entry, EntryNumber};
+use crate::entry::EntryNumber;
 use crate::fault::StoreFault;
-use crate::places::{entry_path, mark_path};
+use crate::filing::{mark_touch, prepare};
 use crate::settling::settle;
-use crate::writing::write_entry;
-use folder_core::{Blob, Folder, Node, Path, Touch};
-use osgi_version::{List, NoMemory, Twin};
+use folder_core::{Folder, Path, Touch};
 use std::alloc::Global;
 
 /// Keeps what stands at a path as the entry of this number: writes the entry, syncs, writes its mark, and syncs. The entry
@@ -69,54 +65,8 @@ fn enter<F: Folder>(
     ensures leaves { OnTold (F.told folder.old) (λ s. LeavesOnly F.told F.left_since folder.old folder.new (LeavesEntry s number.0 path.now)) }
     ensures cause { HasCause (F.faults folder.old) (F.faults folder.new) (IsErrOf result StoreFault.Failed) }
 {
-    let touch = prepare(alloc, folder, number, path)?;
+    let touch = prepare(alloc, folder, number, &[], path)?;
     settle(folder, &touch)
-}
-
-/// The file of an entry. It has all the memory that is needed, and is written later.
-fn prepare<F: Folder>(
-    alloc: Global,
-    folder: &mut F,
-    number: EntryNumber,
-    path: &Path,
-) -> Result<Touch, StoreFault>
-    requires { IsOutside path.now }
-
-    ensures place { IfOk result (λ touch. touch.path ≡ entry_path number.0) }
-    ensures range { IfOk result (λ touch. number.0 < 2 ^ 32) }
-    ensures node { IfOk result (λ touch. IfSome touch.node IsNode) }
-    ensures entry { IfOk result (λ touch. OnTold (F.told folder.old) (λ s. IsEntry path.now (s.now path.now))) }
-    ensures touch { IfOk result (λ touch. OnTold (F.told folder.old)
-        (λ s. touch ≡ entry_touch number.0 path.now (s.now path.now))) }
-    ensures still { Step (F.told folder.old) (F.told folder.new) IsStill }
-    ensures never_damaged { IfErr result (λ fault. IfDamaged fault (λ at. ⊥)) }
-    ensures time { Step (F.told folder.old) (F.told folder.new)
-        (λ s t. Elapses s.moment t.moment (F.left_since folder.old) (F.left_since folder.new) (IsImage t)) }
-    ensures cause { HasCause (F.faults folder.old) (F.faults folder.new) (IsErrOf result StoreFault.Failed) }
-{
-    let before = folder.look(alloc, path)?;
-    entry_touch(alloc, number, path, before)
-}
-
-fn entry_touch(
-    alloc: Global,
-    number: EntryNumber,
-    path: &Path,
-    before: Option<Node>,
-) -> Result<Touch, StoreFault>
-    requires node { IfSome before IsNode }
-    requires small { IfSome before IsSmall }
-    ensures touch { IfOk result (λ touch. touch ≡ entry_touch number.0 path.now before) }
-    ensures entry { IfOk result (λ touch. IsEntry path.now before) }
-    ensures range { IfOk result (λ touch. number.0 < 2 ^ 32) }
-    ensures refused { IfErr result (λ fault. fault ≡ store_fault.NoMemory) }
-{
-    let entry = Entry {
-        path: path.copy()?,
-        before,
-    };
-    let text = write_entry(alloc, &entry)?;
-    Ok(file_at(entry_path(alloc, number)?, text))
 }
 
 /// Writes the entry's mark, and syncs.
@@ -133,25 +83,4 @@ fn mark<F: Folder>(alloc: Global, folder: &mut F, number: EntryNumber) -> Result
 {
     let touch = mark_touch(alloc, number)?;
     settle(folder, &touch)
-}
-
-fn mark_touch(alloc: Global, number: EntryNumber) -> Result<Touch, NoMemory>
-    ensures { IfOk result (λ touch. touch ≡ mark_touch number.0) }
-{
-    let bytes = Vec::from_slice(alloc, b"ok\n")?;
-    let Some(text) = Blob::new(List::from_vec(bytes)) else {
-        unreachable!()
-    };
-    Ok(file_at(mark_path(alloc, number)?, text))
-}
-
-/// What the owner of a file may do, and all others: read, and the owner write.
-const FILE_MODE: u16 = 0o644;
-
-fn file_at(path: Path, blob: Blob) -> Touch
-    ensures { result ≡ record { path = path; node = Some (node.File 420 blob) } }
-{
-    let mode = FILE_MODE;
-    let node = Some(Node::File { mode, blob });
-    Touch { path, node }
 }

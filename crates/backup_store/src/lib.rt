@@ -4,18 +4,22 @@
 
 mod entry;
 mod fault;
+mod filing;
 mod keeping;
+mod keeping_all;
 mod lines;
 mod looking;
 mod places;
 mod putting_back;
 mod reading;
 mod settling;
+mod turns;
 mod writing;
 
 pub use entry::{Entry, EntryNumber};
 pub use fault::StoreFault;
 pub use keeping::keep;
+pub use keeping_all::keep_all;
 pub use looking::{counts, read_kept};
 pub use places::entry_path;
 pub use putting_back::put_back;

@@ -14,10 +14,10 @@ use Rattle.director_core.specs.Found.{Finds, FindsNone}
 use Rattle.director_core.specs.Laid.{IsBare}
 use Rattle.director_core.specs.declared.plan.Plan.{Plan}
 use Rattle.director_core.specs.Planned.{IsReady, IsUnplanned}
-use Rattle.director_core.specs.Source.{SourceGives}
-use Rattle.director_core.specs.SourceStop.{StopsReading}
+use Rattle.director_source.specs.Source.{SourceGives}
+use Rattle.director_source.specs.SourceStop.{StopsReading}
 use Rattle.director_core.specs.Stops.{Stops}
-use Rattle.director_core.proofs.Steps.{both_weaker}
+use Rattle.director_source.proofs.Steps.{both_weaker}
 
 abbrev IsCause : Type 1
 IsCause = Status → Type 0

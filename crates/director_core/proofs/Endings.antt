@@ -21,8 +21,9 @@ use Rattle.director_core.specs.Performs.{Fails, LeavesFailed, PrintsFailed}
 use Rattle.director_core.specs.Printed.{IsFront, IsFaultPrinted, plan_lines, refusal_lines, Prints}
 use Rattle.director_core.specs.Refuses.{Ends, WritesOrFails, WritesWithMemory, WritesRefusal}
 use Rattle.director_core.specs.Stops.{Stops}
-use Rattle.director_core.proofs.Folders.{units_same, given_not_refused, refusal_same}
-use Rattle.director_core.proofs.Distinct.{given_apart, found_once}
+use Rattle.director_source.proofs.Folders.{units_same, given_not_refused, refusal_same}
+use Rattle.director_source.proofs.Apart.{given_apart}
+use Rattle.director_core.proofs.Distinct.{found_once}
 
 -- what holds of two holds of their equals
 transp2 : {X Y : Type 0} (P : X → Y → Type 0) {x x' : X} {y y' : Y} → x ≡ x' → y ≡ y' → P x y → P x' y'

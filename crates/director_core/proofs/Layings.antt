@@ -11,7 +11,7 @@ use Rattle.unit_model.specs.declared.unit.Unit.{Unit}
 use Rattle.director_core.specs.FirstInstall.{first_touches}
 use Rattle.director_core.specs.Laid.{CanLay, AreNodes, IsBare, IsBegun, SameElsewhere, bare, laid}
 use Rattle.director_core.proofs.Maps.{map_bare}
-use Rattle.director_core.proofs.Steps.{step_then}
+use Rattle.director_source.proofs.Steps.{step_then}
 
 laid_append : (front rest : List Touch) (m : Map) → laid (front ++ rest) m ≡ laid rest (laid front m)
 laid_append [] rest m = refl

@@ -2,16 +2,11 @@ pub mod Commands
 pub mod Decisions
 pub mod Endings
 pub mod Distinct
-pub mod Folders
-pub mod GatherSteps
-pub mod Gatherings
 pub mod Layings
 pub mod LookUps
-pub mod LookUpSteps
 pub mod Maps
 pub mod Names
 pub mod Reports
 pub mod Roots
 pub mod RunSteps
-pub mod Steps
 pub mod Texts

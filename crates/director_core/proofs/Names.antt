@@ -1,5 +1,5 @@
 -- Which bytes are names, and paths of them.
-use Rattle.std.proofs.Common.{◌≡◌, ℕ, zero, suc, ◌<◌, ◌≤◌, ◌==◌, ◌&&◌, not, Bool, true, false, nat_le, List, [], ◌∷◌, length, get_or, Bor, map, All, refl, sym, subst, arith, lit≤, ⊎_elim}
+use Rattle.std.proofs.Common.{◌≡◌, ℕ, ◌<◌, ◌≤◌, ◌==◌, ◌&&◌, not, Bool, true, false, nat_le, List, [], ◌∷◌, length, get_or, All, refl, sym, subst, arith, lit≤, ⊎_elim}
 use Rattle.std.specs.List.{list_all}
 use Rattle.std.specs.Str.{IsAscii}
 use Rattle.std.proofs.lemmas.Str.{IsUtf8-from_ascii}
@@ -9,16 +9,10 @@ use Rattle.std.proofs.lemmas.List.{get_or_past}
 use Rattle.std.specs.Prelude.{codes}
 use Rattle.std.specs.List.{AllPass}
 use Rattle.std.proofs.lemmas.Bool.{false≢true}
-use Rattle.std.proofs.lemmas.List.Elements.{All-head, All-tail, All-nil, All-cons, All-contains}
+use Rattle.std.proofs.lemmas.List.Elements.{All-head, All-nil, All-cons, All-contains}
 use Rattle.osgi_version.proofs.VersionViews.{qualifier_utf8}
 use Rattle.unit_model.specs.Profile.{IsProfile, is_profile_byte}
 use Rattle.folder_core.specs.Name.{IsName}
-
--- an element of a list of names is a name
-pub named_at : (names : List (Bor (List ℕ))) (i : ℕ) (d : Bor (List ℕ)) → All IsName (map (λ name. name.now) names) → i < length names → IsName (get_or names i d).now
-named_at [] i d all h = absurd (omega arith)
-named_at (name ∷ names) zero d all h = All-head IsName name.now (map (λ n. n.now) names) all
-named_at (name ∷ names) (suc i) d all h = named_at names i d (All-tail IsName name.now (map (λ n. n.now) names) all) (omega arith)
 
 -- bytes that are all letters, digits, `_` or `-` make a name
 pub profile_is_name : (profile : List ℕ) → IsProfile profile → IsName profile

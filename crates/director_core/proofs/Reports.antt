@@ -8,7 +8,7 @@ use Rattle.director_words.specs.declared.status.Status.{Status}
 use Rattle.director_core.specs.Performs.{Adds}
 use Rattle.director_core.specs.Printed.{IsFaultPrinted}
 use Rattle.director_core.specs.Writes.{WritesFront}
-use Rattle.director_core.proofs.Steps.{step_weaker}
+use Rattle.director_source.proofs.Steps.{step_weaker}
 
 pub reported : (K : Type 0) (s : Status) (line : List ℕ) (a b : Option (List ℕ)) (result : Result (Unit {0}) Failed) → line ≡ short_line_of s
     → OnOk result (Step a b (λ x y. y ≡ x ++ line))

@@ -14,7 +14,7 @@ use Rattle.director_core.specs.Built.{IsBuilt}
 use Rattle.director_core.specs.FirstInstall.{first_state, first_touches}
 use Rattle.director_core.specs.Found.{Finds, FindsNone}
 use Rattle.director_core.specs.Laid.{IsBare, IsBegun, SameElsewhere, bare, laid}
-use Rattle.director_core.specs.Source.{SourceGives}
+use Rattle.director_source.specs.Source.{SourceGives}
 use Rattle.director_core.specs.StateText.{state_text}
 
 -- The words ask to install one root, named by this word, into the profile. No search is needed for a unit that

@@ -2,15 +2,12 @@ pub mod Answer
 pub mod Built
 pub mod FirstInstall
 pub mod Found
-pub mod Gathering
 pub mod Laid
 pub mod LookUp
 pub mod Planned
 pub mod Printed
-pub mod Source
 pub mod StateText
 pub mod Writes
-pub mod SourceStop
 pub mod Stops
 pub mod Performs
 pub mod Refuses

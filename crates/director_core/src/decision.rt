@@ -13,7 +13,7 @@ ghost use Rattle.director_core.specs.Stops.{Stops};
 use crate::look_up::look_up;
 use crate::plan::Plan;
 use crate::planning::plan_for;
-use crate::source::read_source;
+use director_source::read_source;
 use director_words::{Request, RequestFault, Status, read_request};
 use folder_core::{After, Folder, FolderError, Path, Tree};
 use osgi_version::{List, Text};
@@ -51,8 +51,8 @@ pub(crate) fn decide<F: Folder, T: Tree>(
 {
     let asked = read_words(alloc, words)?;
     check_bare(alloc, folder)?;
-    let units = read_source(alloc, source)?;
-    let unit = look_up(alloc, asked.word, &units)?;
+    let catalog = read_source(alloc, source)?;
+    let unit = look_up(alloc, asked.word, &catalog)?;
     let plan = plan_for(alloc, asked.profile, unit)?;
     Ok(plan)
 }

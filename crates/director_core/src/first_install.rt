@@ -4,8 +4,8 @@ ghost use Rattle.folder_core.specs.Name.{IsName};
 ghost use Rattle.director_core.specs.FirstInstall.{directory, directories, file, first_touches};
 ghost use Rattle.director_core.specs.Planned.{IsReady};
 
-use crate::places::path_of;
 use crate::plan::Plan;
+use director_source::path_of;
 use folder_core::{Blob, Node, Touch};
 use osgi_version::{List, NoMemory, Twin};
 use std::alloc::Global;

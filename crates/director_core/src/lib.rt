@@ -4,17 +4,13 @@
 mod built;
 mod command;
 mod decision;
-mod describing;
 mod first_install;
-mod gathering;
 mod laying;
 mod look_up;
 mod performing;
-mod places;
 mod plan;
 mod planning;
 mod refusing;
-mod source;
 mod state_lines;
 mod writing;
 

@@ -1,0 +1,5 @@
+pub mod Fronts
+pub mod NameForms
+pub mod ParamSteps
+pub mod PieceSteps
+pub mod Walks

@@ -1,0 +1,57 @@
+-- The walk over the pieces of a text.
+use Rattle.std.proofs.Common.{◌≡◌, ℕ, ◌+◌, ◌<◌, ◌≤◌, Bool, true, false, cond, List, [], ◌∷◌, ◌++◌, length, drop, get_or, Option, option_to_list, Result, Ok, Err, Bor, refl, sym, ap, ◌∙◌, append-nil, arith}
+use Rattle.std.specs.List.{slice_split, onto_first}
+use Rattle.std.proofs.lemmas.List.{drop_more, drop_all}
+use Rattle.instr_text.specs.declared.fault.InstrRefusal.{InstrRefusal}
+use Rattle.instr_text.specs.Cut.{seen}
+use Rattle.instr_text.specs.Gives.{◌>>=◌}
+use Rattle.instr_text.proofs.Steps.{with_items, with_items-more}
+use Rattle.instr_parser.specs.declared.call.Call.{Call}
+use Rattle.instr_parser.specs.Calls.{piece_call, calls_from, sizes}
+
+module _ (plain : List ℕ) (at : ℕ) (found : List Call) (pieces : List (Bor (List ℕ))) (i : ℕ) (d : Bor (List ℕ)) where
+  abbrev piece : List ℕ
+  piece = (get_or pieces i d).now
+
+  abbrev later : Result (List Call) InstrRefusal
+  later = calls_from plain (at + (length piece + 1)) (seen (drop (i + 1) pieces))
+
+  step : i < length pieces → calls_from plain at (seen (drop i pieces)) ≡ (piece_call plain at piece >>= λ call. later >>= λ calls. Ok (option_to_list call ++ calls))
+  unfolding calls_from
+  step inside = rw (drop_more pieces i d inside) refl
+
+  call_read : (call : Option Call) → i < length pieces → piece_call plain at piece ≡ Ok call
+      → with_items (found ++ option_to_list call) later ≡ with_items found (calls_from plain at (seen (drop i pieces)))
+  call_read call inside read =
+      sym (with_items-more found (option_to_list call) later)
+      ∙ ap (with_items found) (sym (step inside ∙ ap (λ r. r >>= λ call'. later >>= λ calls. Ok (option_to_list call' ++ calls)) read))
+
+  pub call_put : (call : Option Call) (new : List Call) → i < length pieces → piece_call plain at piece ≡ Ok call → new ≡ found ++ option_to_list call
+      → with_items new later ≡ with_items found (calls_from plain at (seen (drop i pieces)))
+  call_put call new inside read put = ap (λ calls. with_items calls later) put ∙ call_read call inside read
+
+  pub call_refused : (refusal : InstrRefusal) → i < length pieces → piece_call plain at piece ≡ Err refusal
+      → with_items found (calls_from plain at (seen (drop i pieces))) ≡ Err refusal
+  call_refused refusal inside refused =
+      ap (with_items found) (step inside ∙ ap (λ r. r >>= λ call'. later >>= λ calls. Ok (option_to_list call' ++ calls)) refused)
+
+  pub sizes-more : i < length pieces → sizes (seen (drop i pieces)) ≡ length piece + 1 + sizes (seen (drop (i + 1) pieces))
+  sizes-more inside = ap (λ ps. sizes (seen ps)) (drop_more pieces i d inside)
+
+pub calls_from-none : (plain : List ℕ) (at : ℕ) (found : List Call) (pieces : List (Bor (List ℕ))) (i : ℕ) → length pieces ≤ i
+    → with_items found (calls_from plain at (seen (drop i pieces))) ≡ Ok found
+unfolding calls_from
+calls_from-none plain at found pieces i past = rw (drop_all i pieces past) (ap Ok (append-nil found))
+
+sizes-onto : (b : ℕ) (pieces : List (List ℕ)) (n : ℕ) → sizes pieces ≡ n + 1 → sizes (onto_first b pieces) ≡ n + 2
+sizes-onto b [] n h = omega arith
+sizes-onto b (piece ∷ pieces) n h = omega arith
+
+-- Pieces have one byte more than the text: its `;` and one behind the last.
+pub sizes-split : (p : ℕ → Bool) (text : List ℕ) → sizes (slice_split p text) ≡ length text + 1
+sizes-split p [] = refl
+sizes-split p (b ∷ text) = by (p b) (sizes-split p text)
+  where
+    by : (t : Bool) → sizes (slice_split p text) ≡ length text + 1 → sizes (cond t ([] ∷ slice_split p text) (onto_first b (slice_split p text))) ≡ length (b ∷ text) + 1
+    by true h = omega arith
+    by false h = let more = sizes-onto b (slice_split p text) (length text) h in omega arith

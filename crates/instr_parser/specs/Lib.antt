@@ -1,0 +1,9 @@
+pub mod Calls
+pub mod Front
+pub mod Naming
+pub mod Opened
+pub mod Params
+pub mod Path
+pub mod Slots
+pub mod Tables
+pub mod Value

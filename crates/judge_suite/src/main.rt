@@ -1,10 +1,9 @@
-//! Computes the definitions of what may be installed together, slowly, on rows of worked examples: a row of standard
-//! input gives units, an environment or a question, and its line of standard output answers.
+//! Holds judgements of units against rows of worked answers: a row of standard input gives units, an environment or a
+//! question, and its line of standard output answers.
 #![tactic(auto)]
 
-mod answer;
-mod chains;
-mod judges;
+mod asking;
+mod making;
 mod scene;
 
 use scene::Scene;

@@ -1,10 +1,9 @@
 //! What the rows speak of.
 
-use crate::answer::{push_met, push_rooted, push_slice, push_valid, push_word};
-use inf_reader::units_of;
+use crate::asking::{push_judged, push_word};
+use crate::making::{chain, read_units};
 use ldap_filter::{Env, EnvFault};
 use osgi_version::{List, NoMemory, Text, Twin};
-use props_reader::{PropsFault, read};
 use std::alloc::Global;
 use suite_row::Row;
 use unit_model::Unit;
@@ -51,12 +50,10 @@ impl Scene {
     fn push_row(&mut self, answer: &mut Vec<u8>, alloc: Global, row: &Row) -> Result<(), NoMemory> {
         match row.word(0) {
             "units" => self.take_units(answer, alloc, row.field(1)),
+            "chain" => self.take_chain(answer, alloc, row),
             "twice" => self.repeat(answer, row),
             "on" => self.set(answer, row),
-            "met" => push_met(answer, self, row),
-            "valid" => push_valid(answer, alloc, self, row),
-            "slice" => push_slice(answer, alloc, self, row),
-            "rooted" => push_rooted(answer, alloc, self, row),
+            "judge" => push_judged(answer, alloc, self, row),
             _ => push_word(answer, "no question"),
         }
     }
@@ -69,7 +66,7 @@ impl Scene {
         text: &Text,
     ) -> Result<(), NoMemory> {
         self.env = Env::new(alloc);
-        match read_units(alloc, text)? {
+        match read_units(alloc, text.bytes())? {
             Some(units) => {
                 self.units = units;
                 push_word(answer, "units")
@@ -78,9 +75,22 @@ impl Scene {
         }
     }
 
+    /// `chain COUNT`: from here on the units are so many in a chain.
+    fn take_chain(
+        &mut self,
+        answer: &mut Vec<u8>,
+        alloc: Global,
+        row: &Row,
+    ) -> Result<(), NoMemory> {
+        let count = row.word(1).parse::<u32>().unwrap_or(0);
+        self.units = chain(alloc, count)?;
+        push_word(answer, "units")
+    }
+
     /// `twice UNIT`: that unit stands at the end once more.
     fn repeat(&mut self, answer: &mut Vec<u8>, row: &Row) -> Result<(), NoMemory> {
-        match self.units.get(place(row, 1)) {
+        let place = row.word(1).parse::<usize>().unwrap_or(usize::MAX);
+        match self.units.get(place) {
             Some(unit) => {
                 let unit = unit.copy()?;
                 self.units.push(unit)?;
@@ -97,19 +107,5 @@ impl Scene {
             Err(EnvFault::BadKey) => push_word(answer, "bad key"),
             Err(EnvFault::NoMemory) => Err(NoMemory),
         }
-    }
-}
-
-/// The field as a place in a list.
-pub(crate) fn place(row: &Row, field: usize) -> usize {
-    row.word(field).parse::<usize>().unwrap_or(usize::MAX)
-}
-
-/// The units of a description in the folder `f`. None where it is refused.
-fn read_units(alloc: Global, text: &Text) -> Result<Option<List<Unit>>, NoMemory> {
-    match read(alloc, text.bytes()) {
-        Ok(pairs) => Ok(units_of(alloc, b"f", &pairs).ok()),
-        Err(PropsFault::BadEscape { .. }) => Ok(None),
-        Err(PropsFault::NoMemory) => Err(NoMemory),
     }
 }

@@ -11,7 +11,7 @@ use Rattle.unit_model.specs.declared.name.UnitName.{UnitName}
 use Rattle.unit_model.specs.declared.unit.Unit.{Unit as Package}
 use Rattle.pb_encode.specs.AreMembers.{name_cmp, IsBefore, AreMembers, members_of}
 
-unit_there : (units : List Package) (n : ℕ) → n < length units → (u : Package) × (slice_get units n ≡ Some u)
+pub unit_there : (units : List Package) (n : ℕ) → n < length units → (u : Package) × (slice_get units n ≡ Some u)
 unit_there [] n h = absurd (omega arith)
 unit_there (u ∷ us) zero h = (u, refl)
 unit_there (u ∷ us) (suc n) h = unit_there us n (omega arith)

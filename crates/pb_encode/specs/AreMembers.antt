@@ -1,5 +1,5 @@
 -- Members: units of a catalog by their numbers, in the order of their names.
-use Rattle.std.specs.Prelude.{◌≡◌, ℕ, ◌<◌, ◌≤◌, Some, List, length, All, AllPairs, filter_map, slice_get}
+use Rattle.std.specs.Prelude.{◌≡◌, ℕ, ◌+◌, ◌<◌, ◌≤◌, Some, List, length, All, AllPairs, filter_map, slice_get, slice_index}
 use Rattle.std.specs.Cmp.Lexicographic.{slice_cmp}
 use Rattle.std.specs.Ordering.{nat_cmp, ordering_then}
 use Rattle.std.specs.declared.cmp.Ordering.{Ordering}
@@ -25,3 +25,8 @@ pub record AreMembers (units : List Package) (numbers : List ℕ) : Type 0 where
 -- the units of these numbers, in their order
 abbrev pub members_of : List Package → List ℕ → List Package
 members_of units numbers = filter_map (slice_get units) numbers
+
+-- The number at the place is that of a unit, and of one behind that of the number before it.
+abbrev pub IsInPlace : List Package → List ℕ → ℕ → Type 0
+IsInPlace units numbers k =
+    (slice_index numbers k < length units) × ((j : ℕ) → j + 1 ≡ k → IsBefore units (slice_index numbers j) (slice_index numbers k))

@@ -1,11 +1,10 @@
-use crate::files::room;
-use crate::streams::Given;
 use director_core::run;
 use director_words::Status;
 use folder_core::Sink;
 use host_adapters::{Arguments, HostFolder, HostTree, StdInput, StdSink};
-use std::fs;
+use std::env::{Env, FillError};
 use std::test::Fail;
+use std::{env, fs, process};
 
 const SOURCE: &str = "units.0.id=a
 units.0.version=1.0.0
@@ -26,6 +25,45 @@ provides org.eclipse.equinox.p2.iu a 1.0.0
 end
 end state
 ";
+
+/// A place for a test's files, where nothing stands yet.
+fn room(rt: HostRuntime, name: &str) -> Result<String, Fail> {
+    let holder = env::temp_dir(&rt)?;
+    let holder = holder.as_str();
+    let id = process::id(rt.process());
+    let room = format!(in rt.alloc(); "{holder}/p2-{name}-{id}")?;
+    if fs::exists(&rt, room.as_str())? {
+        fs::remove_dir_all(&rt, room.as_str())?;
+    }
+    Ok(room)
+}
+
+/// Words that a program is called with, one blank between them. No word where the bytes are none.
+#[derive(Clone, Copy)]
+struct Given<'a>(&'a [u8]);
+
+impl Env for Given<'_> {
+    fn arg(&self, i: usize, buf: &mut [u8]) -> Result<usize, FillError> {
+        if self.0.is_empty() {
+            return Err(FillError::NotPresent);
+        }
+        let mut words = self.0.split(|byte| *byte == b' ');
+        let word = words.nth(i).ok_or(FillError::NotPresent)?;
+        if word.len() > buf.len() {
+            return Err(FillError::TooLong);
+        }
+        buf[..word.len()].copy_from_slice(word);
+        Ok(word.len())
+    }
+
+    fn var(&self, _name: &str, _buf: &mut [u8]) -> Result<usize, FillError> {
+        Err(FillError::NotPresent)
+    }
+
+    fn var_at(&self, _i: usize, _buf: &mut [u8]) -> Result<usize, FillError> {
+        Err(FillError::NotPresent)
+    }
+}
 
 fn make_source(rt: HostRuntime, room: &str) -> Result<(), Fail> {
     fs::create_dir_all(&rt, format!(in rt.alloc(); "{room}/source/f")?)?;
@@ -68,14 +106,18 @@ fn reads(rt: HostRuntime, room: &str, at: &str, wanted: &str) -> Result<bool, Fa
 }
 
 /// The folder isn't there before.
+fn is_reached(rt: HostRuntime, at: &str) -> Result<bool, Fail> {
+    make_source(rt, at)?;
+    let is_reached = is_installed(rt, at)?
+        && reads(rt, at, "folder/profiles/ide/1.state", STATE)?
+        && reads(rt, at, "folder/profiles/ide/current", "1\n")?;
+    fs::remove_dir_all(&rt, at)?;
+    Ok(is_reached)
+}
+
 #[test]
 fn install_reaches_the_host(rt: HostRuntime) -> Result<(), Fail> {
     let room = room(rt, "install_reaches_the_host")?;
-    let at = room.as_str();
-    make_source(rt, at)?;
-    assert!(rt; is_installed(rt, at)?);
-    assert!(rt; reads(rt, at, "folder/profiles/ide/1.state", STATE)?);
-    assert!(rt; reads(rt, at, "folder/profiles/ide/current", "1\n")?);
-    fs::remove_dir_all(&rt, at)?;
+    assert!(rt; is_reached(rt, room.as_str())?);
     Ok(())
 }

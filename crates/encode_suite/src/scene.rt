@@ -79,12 +79,7 @@ impl Scene {
     }
 
     /// `add TEXT`: the units of this description stand behind those of the catalog.
-    fn add(
-        &mut self,
-        answer: &mut Vec<u8>,
-        alloc: Global,
-        text: &Text,
-    ) -> Result<(), NoMemory> {
+    fn add(&mut self, answer: &mut Vec<u8>, alloc: Global, text: &Text) -> Result<(), NoMemory> {
         match read_units(alloc, text)? {
             Some(units) => {
                 add_each(&mut self.catalog, units)?;

@@ -10,4 +10,5 @@ pub mod RequirementLaws
 pub mod RootLaws
 pub mod RowsLaws
 pub mod SingletonLaws
+pub mod UniqueForms
 pub mod VariableLaws

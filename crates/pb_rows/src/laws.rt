@@ -1,5 +1,5 @@
 //! Laws of the rows. Each is the contract of a function that does nothing.
-ghost use Rattle.std.specs.Prelude.{◌≡◌, ◌≢◌, ◌↔◌, ℕ, Bool, List, map, length, All, AllPairs, Contains, IsTrue};
+ghost use Rattle.std.specs.Prelude.{◌≡◌, ◌≢◌, ◌↔◌, ◌<◌, ℕ, Bool, List, map, length, All, AllPairs, Contains, IsTrue};
 ghost use Rattle.ldap_filter.specs.EnvPairs.{EnvPair};
 ghost use Rattle.unit_model.specs.Applies.{filter_true};
 ghost use Rattle.unit_model.specs.Matches.{Matches};
@@ -14,7 +14,7 @@ ghost use Rattle.pb_core.specs.AtLeast.{at_least};
 ghost use Rattle.pb_core.specs.Normal.{IsNormalOver};
 ghost use Rattle.pb_core.specs.Satisfied.{SatisfiesAll};
 ghost use Rattle.pb_core.specs.declared.constraint.Constraint.{Constraint as Kept};
-ghost use Rattle.pb_rows.specs.Normalising.{Satisfies, AreNormalised};
+ghost use Rattle.pb_rows.specs.Normalising.{Satisfies, AreNormalised, HasMoreTerms, term_count};
 ghost use Rattle.pb_rows.specs.Rows.{Row, root_rows, requirement_rows, singleton_rows, rows};
 
 /// The tests on units decide what they are said to.
@@ -61,4 +61,11 @@ pub fn constraints_are_normal()
     ensures { (members : List Package) (roots : List UnitName) (env : List EnvPair) (constraints : List Kept) →
         AreNormalised (rows members roots env) constraints →
         All (λ c. IsNormalOver (length members) (at_least c)) constraints }
+{}
+
+/// Rows have one list of normal forms. So where those of the first rows have too many terms, those of all have.
+pub fn rows_have_one_problem()
+    ensures one { (given : List Row) (a b : List Kept) → AreNormalised given a → AreNormalised given b → a ≡ b }
+    ensures counted { (most : ℕ) (given : List Row) (constraints : List Kept) →
+        AreNormalised given constraints → HasMoreTerms most given → most < term_count constraints }
 {}

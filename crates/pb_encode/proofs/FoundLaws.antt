@@ -26,7 +26,7 @@ use Rattle.pb_rows.specs.Deciding.{same_name, matches}
 use Rattle.pb_rows.specs.Members.{numbered, variables}
 use Rattle.pb_rows.proofs.DecidingLaws.{Decides-matches, Decides-same_name}
 use Rattle.pb_rows.proofs.VariableLaws.{IsVariableOf, are_variables}
-use Rattle.pb_encode.specs.AreMembers.{AreMembers, members_of}
+use Rattle.unit_catalog.specs.Order.{AreMembers, units_at}
 use Rattle.pb_encode.specs.Places.{IsVariableOfNumber, IsVariableAt, IsVariableAmong, AreFound}
 use Rattle.pb_encode.proofs.MemberLaws.{member_at, number_at, distinct_numbers, same_place}
 
@@ -91,9 +91,9 @@ below_later given i d rise h k e lt =
 
 -- ---- what matches
 
-each_matching : (units : List Package) (numbers : List ℕ) (r : Required) (providers found : List ℕ) → AreMembers units numbers → AreProviders units r providers → AreFound numbers providers found → All (IsVariableOf (matches r) (members_of units numbers)) found
+each_matching : (units : List Package) (numbers : List ℕ) (r : Required) (providers found : List ℕ) → AreMembers units numbers → AreProviders units r providers → AreFound numbers providers found → All (IsVariableOf (matches r) (units_at units numbers)) found
 each_matching units numbers r providers found are some is =
-    All-weaker (IsVariableAmong numbers providers) (IsVariableOf (matches r) (members_of units numbers))
+    All-weaker (IsVariableAmong numbers providers) (IsVariableOf (matches r) (units_at units numbers))
     (λ v among.
     let has = All-contains (HasAt units (Matches r)) providers among.number some.each among.stands in
     record {
@@ -105,7 +105,7 @@ each_matching units numbers r providers found are some is =
     })
     found is.each
 
-every_matching : (units : List Package) (numbers : List ℕ) (r : Required) (providers found : List ℕ) → AreMembers units numbers → AreProviders units r providers → AreFound numbers providers found → (v : ℕ) → IsVariableOf (matches r) (members_of units numbers) v → Contains found v
+every_matching : (units : List Package) (numbers : List ℕ) (r : Required) (providers found : List ℕ) → AreMembers units numbers → AreProviders units r providers → AreFound numbers providers found → (v : ℕ) → IsVariableOf (matches r) (units_at units numbers) v → Contains found v
 every_matching units numbers r providers found are some is v var =
     let at = number_at units numbers are.there var.place var.unit var.here in
     let has : HasAt units (Matches r) at.number = record { unit = var.unit; here = at.unit; has = (Decides-matches r var.unit).0 var.passes } in
@@ -123,10 +123,10 @@ rising_sorted found sorted apart moved order =
     (IsStrictlyIncreasing-from_distinct sorted (IsNonDecreasingBy-from_sort (λ n. n) sorted order)
     (IsDistinct-IsPermutation eqb eqb_flips found sorted moved (IsDistinct-from_AllPairs Decides-eqb found apart)))
 
-pub matching_is : (units : List Package) (numbers : List ℕ) (r : Required) (providers found sorted : List ℕ) → AreMembers units numbers → AreProviders units r providers → AreFound numbers providers found → IsPermutation found sorted → IsSorted nat_cmp sorted → sorted ≡ variables (matches r) (members_of units numbers)
+pub matching_is : (units : List Package) (numbers : List ℕ) (r : Required) (providers found sorted : List ℕ) → AreMembers units numbers → AreProviders units r providers → AreFound numbers providers found → IsPermutation found sorted → IsSorted nat_cmp sorted → sorted ≡ variables (matches r) (units_at units numbers)
 matching_is units numbers r providers found sorted are some is moved order =
-    are_variables (matches r) (members_of units numbers) sorted (rising_sorted found sorted is.distinct moved order)
-    (All-permutation (IsVariableOf (matches r) (members_of units numbers)) found sorted moved (each_matching units numbers r providers found are some is))
+    are_variables (matches r) (units_at units numbers) sorted (rising_sorted found sorted is.distinct moved order)
+    (All-permutation (IsVariableOf (matches r) (units_at units numbers)) found sorted moved (each_matching units numbers r providers found are some is))
     (λ v var. Contains-permutation found sorted v moved (every_matching units numbers r providers found are some is v var))
 
 -- ---- what is named
@@ -134,15 +134,15 @@ matching_is units numbers r providers found sorted are some is moved order =
 abbrev Named : UnitName → Package → Bool
 Named name u = same_name u.name name
 
-pub none_named : (units : List Package) (numbers : List ℕ) (name : UnitName) → AreMembers units numbers → ((k n : ℕ) (u : Package) → slice_get numbers k ≡ Some n → slice_get units n ≡ Some u → u.name ≢ name) → [] ≡ variables (Named name) (members_of units numbers)
+pub none_named : (units : List Package) (numbers : List ℕ) (name : UnitName) → AreMembers units numbers → ((k n : ℕ) (u : Package) → slice_get numbers k ≡ Some n → slice_get units n ≡ Some u → u.name ≢ name) → [] ≡ variables (Named name) (units_at units numbers)
 none_named units numbers name are none =
-    are_variables (Named name) (members_of units numbers) [] (λ i j d lt h. absurd (omega arith)) (All-nil (IsVariableOf (Named name) (members_of units numbers)))
+    are_variables (Named name) (units_at units numbers) [] (λ i j d lt h. absurd (omega arith)) (All-nil (IsVariableOf (Named name) (units_at units numbers)))
     (λ v var.
     let at = number_at units numbers are.there var.place var.unit var.here in
     absurd (none var.place at.number var.unit at.stands at.unit ((Decides-same_name var.unit.name name).0 var.passes)))
 
 -- no unit of the catalog has the name
-pub new_named : (units : List Package) (numbers : List ℕ) (name : UnitName) → AreMembers units numbers → All (λ u. u.name ≢ name) units → [] ≡ variables (Named name) (members_of units numbers)
+pub new_named : (units : List Package) (numbers : List ℕ) (name : UnitName) → AreMembers units numbers → All (λ u. u.name ≢ name) units → [] ≡ variables (Named name) (units_at units numbers)
 new_named units numbers name are new =
     none_named units numbers name are
     (λ k n u e f. let P : Package → Type 0 = λ w. w.name ≢ name in subst P (get_or_from_slice_get units n u u f) (new n u (slice_get_within units n u f)))
@@ -158,13 +158,13 @@ same_number units name m n u v distinct e f a b =
     let above : (n < m → ⊥) = λ lt. distinct n m u lt first (sym named) in
     grind (arith, below, above)
 
-pub found_named : (units : List Package) (numbers : List ℕ) (name : UnitName) (n : ℕ) (o : Option ℕ) → AreMembers units numbers → HasDistinctNames units → HasAt units (λ u. u.name ≡ name) n → IsVariableAt numbers n o → option_to_list o ≡ variables (Named name) (members_of units numbers)
+pub found_named : (units : List Package) (numbers : List ℕ) (name : UnitName) (n : ℕ) (o : Option ℕ) → AreMembers units numbers → HasDistinctNames units → HasAt units (λ u. u.name ≡ name) n → IsVariableAt numbers n o → option_to_list o ≡ variables (Named name) (units_at units numbers)
 found_named units numbers name n None are distinct has none =
     none_named units numbers name are
     (λ k m u e f. λ named. none k (e ∙ ap Some (same_number units name m n u has.unit distinct f has.here named has.has)))
 found_named units numbers name n (Some v) are distinct has var =
-    are_variables (Named name) (members_of units numbers) (v ∷ []) (λ i j d lt h. absurd (omega arith))
-    (All-cons (IsVariableOf (Named name) (members_of units numbers)) v []
+    are_variables (Named name) (units_at units numbers) (v ∷ []) (λ i j d lt h. absurd (omega arith))
+    (All-cons (IsVariableOf (Named name) (units_at units numbers)) v []
     (record {
       place = var.place;
       unit = has.unit;
@@ -172,7 +172,7 @@ found_named units numbers name n (Some v) are distinct has var =
       passes = (Decides-same_name has.unit.name name).1 has.has;
       is = var.is;
     })
-    (All-nil (IsVariableOf (Named name) (members_of units numbers))))
+    (All-nil (IsVariableOf (Named name) (units_at units numbers))))
     (λ w other.
     let at = number_at units numbers are.there other.place other.unit other.here in
     let one : at.number ≡ n = same_number units name at.number n other.unit has.unit distinct at.unit has.here ((Decides-same_name other.unit.name name).0 other.passes) has.has in

@@ -19,11 +19,11 @@ use Rattle.unit_model.specs.declared.unit.Unit.{Unit as Package}
 use Rattle.pb_rows.specs.Members.{variables}
 use Rattle.pb_rows.specs.Rows.{id_rows, ids}
 use Rattle.pb_rows.proofs.VariableLaws.{IsVariableOf, are_variables}
-use Rattle.pb_encode.specs.AreMembers.{name_cmp}
+use Rattle.unit_catalog.specs.Order.{by_id}
 use Rattle.pb_encode.specs.Places.{id_at, IsFirstOfId, IsRun, of_id}
 
 abbrev Rise : List Package → Type 0
-Rise ms = AllPairs (λ u v. name_cmp u.name v.name ≡ Less) ms
+Rise ms = AllPairs (λ u v. by_id u.name v.name ≡ Less) ms
 
 id_cmp : List ℕ → List ℕ → Ordering
 id_cmp = slice_cmp nat_cmp

@@ -3,7 +3,8 @@ use Rattle.std.proofs.Common.{◌≡◌, ℕ, zero, suc, ◌+◌, ◌-◌, ◌<�
 use Rattle.std.specs.List.{slice_index}
 use Rattle.std.proofs.lemmas.List.{get_or_default}
 use Rattle.unit_model.specs.declared.unit.Unit.{Unit as Package}
-use Rattle.pb_encode.specs.AreMembers.{IsBefore, AreMembers, IsInPlace}
+use Rattle.unit_catalog.specs.Order.{IsBefore, AreMembers}
+use Rattle.pb_encode.specs.InPlace.{IsInPlace}
 use Rattle.pb_encode.proofs.MemberLaws.{unit_there, names_total}
 
 chain : (units : List Package) (numbers : List ℕ) → ((k : ℕ) → k < length numbers → IsInPlace units numbers k) → (i n j : ℕ) → j ≡ i + 1 + n → j < length numbers → IsBefore units (slice_index numbers i) (slice_index numbers j)

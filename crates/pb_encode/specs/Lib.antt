@@ -1,5 +1,5 @@
-pub mod AreMembers
 pub mod Asking
+pub mod InPlace
 pub mod IsProblem
 pub mod Places
 pub mod UnitsOf

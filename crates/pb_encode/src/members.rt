@@ -1,5 +1,5 @@
 ghost use Rattle.std.specs.Prelude.{◌≡◌, ◌≢◌, ◌<◌, ◌≤◌, length, IfOk, All, AllPairs, slice_index};
-ghost use Rattle.pb_encode.specs.AreMembers.{AreMembers};
+ghost use Rattle.unit_catalog.specs.Order.{AreMembers};
 ghost use Rattle.pb_encode.specs.Places.{HasPlaces};
 
 use osgi_version::{List, NoMemory};
@@ -20,13 +20,13 @@ pub struct Members<'a> {
 
 impl<'a> Members<'a> {
     ghost use Rattle.std.specs.Prelude.{◌≡◌, IfOk};
-    ghost use Rattle.pb_encode.specs.AreMembers.{AreMembers, members_of};
+    ghost use Rattle.unit_catalog.specs.Order.{AreMembers, units_at};
     ghost use Rattle.pb_encode.specs.UnitsOf.{units_of, numbers_of};
 
     /// The members of these numbers. Takes as much time and memory as the catalog has units.
     pub fn new(catalog: &'a Catalog, numbers: &'a List<u32>) -> Result<Members<'a>, NoMemory>
         requires { AreMembers catalog.now numbers.now }
-        ensures units { IfOk result (λ members. units_of members ≡ members_of catalog.now numbers.now) }
+        ensures units { IfOk result (λ members. units_of members ≡ units_at catalog.now numbers.now) }
         ensures numbers { IfOk result (λ members. numbers_of members ≡ numbers.now) }
     {
         let variables = places(numbers.allocator(), numbers.items(), catalog.len() as usize)?;

@@ -1,7 +1,8 @@
 //! Whether numbers are those of members.
 
 ghost use Rattle.std.specs.Prelude.{◌≡◌, ◌<◌, ◌↔◌, length, IsTrue};
-ghost use Rattle.pb_encode.specs.AreMembers.{name_cmp, IsBefore, AreMembers, IsInPlace};
+ghost use Rattle.unit_catalog.specs.Order.{by_id, IsBefore, AreMembers};
+ghost use Rattle.pb_encode.specs.InPlace.{IsInPlace};
 
 use osgi_version::List;
 use std::cmp::Ordering;
@@ -42,13 +43,13 @@ fn is_before(catalog: &Catalog, number: u32, later: u32) -> bool
     ensures { IsTrue result ↔ IsBefore catalog.now number later }
 {
     match (catalog.unit(number), catalog.unit(later)) {
-        (Some(unit), Some(other)) => name_cmp(&unit.name, &other.name) == Ordering::Less,
+        (Some(unit), Some(other)) => by_name(&unit.name, &other.name) == Ordering::Less,
         _ => true,
     }
 }
 
-fn name_cmp(name: &UnitName, other: &UnitName) -> Ordering
-    ensures { result ≡ name_cmp name.now other.now }
+fn by_name(name: &UnitName, other: &UnitName) -> Ordering
+    ensures { result ≡ by_id name.now other.now }
 {
     name.id
         .bytes()

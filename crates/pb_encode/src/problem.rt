@@ -8,7 +8,7 @@ ghost use Rattle.pb_rows.specs.Members.{selected};
 ghost use Rattle.pb_rows.specs.Normalising.{Adds, AreTooMany, AreNormalised, HasMoreTerms, term_count};
 ghost use Rattle.pb_rows.specs.Rows.{label, rows};
 ghost use Rattle.pb_rows.specs.declared.fault.EncodeFault.TheVariants as faults;
-ghost use Rattle.pb_encode.specs.AreMembers.{AreMembers, members_of};
+ghost use Rattle.unit_catalog.specs.Order.{AreMembers, units_at};
 ghost use Rattle.pb_encode.specs.IsProblem.{IsProblem};
 ghost use Rattle.pb_encode.specs.UnitsOf.{units_of};
 
@@ -32,17 +32,19 @@ pub fn encode(
     env: &Env,
 ) -> Result<Problem, EncodeFault>
     requires { AreMembers catalog.now members.now }
-    ensures problem { IfOk result (IsProblem (members_of catalog.now members.now) roots.now env.now) }
+    ensures problem { IfOk result (IsProblem (units_at catalog.now members.now) roots.now env.now) }
     ensures few { IfOk result (λ problem. term_count problem.constraints ≤ 4000000) }
     ensures normal { IfOk result (λ problem. All (λ c. IsNormalOver (length members.now) (at_least c)) problem.constraints) }
 
     // A set of members that apply is valid exactly where the assignment that selects it satisfies the problem.
     ensures valid { IfOk result (λ problem. (full : ℕ → Bool) →
-        All (λ u. IsTrue (filter_true env.now u.filter)) (members_of catalog.now members.now) →
+        All (λ u. IsTrue (filter_true env.now u.filter)) (units_at catalog.now members.now) →
         SatisfiesAll full (map at_least problem.constraints)
-        ↔ IsValid (selected full (members_of catalog.now members.now)) roots.now env.now) }
+        ↔ IsValid (selected full (units_at catalog.now members.now)) roots.now env.now) }
     ensures too_large { IfErr result (λ e. e ≡ faults.TooLarge →
-        HasMoreTerms 4000000 (rows (members_of catalog.now members.now) roots.now env.now)) }
+        HasMoreTerms 4000000 (rows (units_at catalog.now members.now) roots.now env.now)) }
+    ensures not_too_large { IfOk result (λ problem.
+        ¬ (HasMoreTerms 4000000 (rows (units_at catalog.now members.now) roots.now env.now))) }
 {
     let members = Members::new(catalog, members)?;
     let labels = labels_of(&members)?;

@@ -1,5 +1,5 @@
 use Rattle.std.proofs.Common.{◌<◌, ◌≤◌, ℕ, List, IsTrue, length, refl, subst, below_more, arith}
-use Rattle.pb_encode.specs.AreMembers.{IsInPlace}
+use Rattle.pb_encode.specs.InPlace.{IsInPlace}
 use Rattle.pb_encode.proofs.OrderLaws.{members_are}
 use Rattle.pb_encode.proofs.order.are_members.Goals as goal
 

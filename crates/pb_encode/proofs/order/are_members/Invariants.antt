@@ -1,5 +1,5 @@
 use Rattle.std.proofs.Common.{ℕ, ◌<◌}
-use Rattle.pb_encode.specs.AreMembers.{IsInPlace}
+use Rattle.pb_encode.specs.InPlace.{IsInPlace}
 use Rattle.pb_encode.proofs.order.are_members.Given as goal
 
 -- the numbers so far are in place

@@ -2,7 +2,7 @@ use Rattle.std.proofs.Common.{◌≡◌, ℕ, List, length, AllPairs, ◌<◌, s
 use Rattle.unit_catalog.specs.Providers.{AreProviders}
 use Rattle.pb_rows.specs.Deciding.{matches}
 use Rattle.pb_rows.specs.Members.{variables}
-use Rattle.pb_encode.specs.AreMembers.{members_of}
+use Rattle.unit_catalog.specs.Order.{units_at}
 use Rattle.pb_encode.proofs.FoundLaws.{matching_is, few_variables}
 use Rattle.pb_encode.proofs.MemberLaws.{length_members}
 use Rattle.pb_encode.proofs.members.Members.matching.Goals as goal
@@ -12,7 +12,7 @@ variables_of-requires c =
     let P : List ℕ → Type 0 = λ ns. AllPairs (λ m n. m < n) ns in
     subst P (sym c.items.ensures) c.in_ok-providers.ensures.rising
 
-are_variables : (c : goal.After-drop-providers-inside-2) → c.sort_unstable.new.self.items ≡ variables (matches c.args.required.now) (members_of c.args.self.now.catalog.now c.args.self.now.numbers.now)
+are_variables : (c : goal.After-drop-providers-inside-2) → c.sort_unstable.new.self.items ≡ variables (matches c.args.required.now) (units_at c.args.self.now.catalog.now c.args.self.now.numbers.now)
 are_variables c =
     let P : List ℕ → Type 0 = λ ns. AreProviders c.args.self.now.catalog.now c.args.required.now ns in
     matching_is c.args.self.now.catalog.now c.args.self.now.numbers.now c.args.required.now c.items.result.now c.in_ok-found.found.items c.sort_unstable.new.self.items c.args.self.now.sound
@@ -24,7 +24,7 @@ returns-clause-value c = are_variables c
 pub returns-clause-few : goal.returns-clause-few
 returns-clause-few c =
     let is = are_variables c in
-    let members = members_of c.args.self.now.catalog.now c.args.self.now.numbers.now in
+    let members = units_at c.args.self.now.catalog.now c.args.self.now.numbers.now in
     let same = length_members c.args.self.now.catalog.now c.args.self.now.numbers.now c.args.self.now.sound.there in
     let short = few_variables (matches c.args.required.now) members in
     let few = c.args.self.now.sound.few in

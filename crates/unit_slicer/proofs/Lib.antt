@@ -2,5 +2,6 @@ mod AddingLaws
 mod FindingLaws
 mod MarkingLaws
 mod OrderLaws
+pub mod RootedLaws
 mod SliceLaws
-mod WholeCatalogLaws
+pub mod WholeCatalogLaws

@@ -20,6 +20,7 @@ pub marked_more : (numbers : List ℕ) (marks : List Bool) (m : ℕ) → AreMark
 marked_more numbers marks m marked inside clear room = record {
   few = let few = marked.few in omega (arith, length-append numbers (m ∷ []));
   distinct = distinct_more numbers m marked.distinct (new_number numbers marks m marked inside clear);
+  within = rw (length-set marks m true) (All-push (λ n. n < length marks) numbers m marked.within inside);
   marked = each;
 }
   where
@@ -64,5 +65,6 @@ pub marked_none : (marks : List Bool) (units : ℕ) → length marks ≡ units �
 marked_none marks units long clear = record {
   few = omega arith;
   distinct = λ i j d before inside. absurd (omega arith);
+  within = All-nil (λ n. n < length marks);
   marked = λ n inside. (λ yes. let no = clear n (omega arith) in absurd (cc), λ has. absurd (let none = has.1 in omega arith));
 }

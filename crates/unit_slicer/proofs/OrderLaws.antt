@@ -24,15 +24,15 @@ use Rattle.osgi_version.specs.VersionOrder.{version_cmp}
 use Rattle.unit_model.specs.declared.name.UnitName.{UnitName}
 use Rattle.unit_model.specs.declared.unit.Unit.{Unit as Package}
 use Rattle.unit_catalog.specs.Named.{HasDistinctNames}
-use Rattle.unit_slicer.specs.Members.{IsBefore}
-use Rattle.unit_slicer.specs.NameOrder.{name_cmp, name_at, number_cmp}
+use Rattle.unit_catalog.specs.Order.{by_id, IsBefore}
+use Rattle.unit_slicer.specs.NameOrder.{name_at, number_cmp}
 use Rattle.unit_slicer.proofs.FindingLaws.{one_number}
 
-name_cmp-total : IsTotalOrder name_cmp
-name_cmp-total = then_total (on_total (λ (n : UnitName). n.id) nat_list_cmp_total) (on_total (λ (n : UnitName). n.version) version_cmp-total)
+by_id-total : IsTotalOrder by_id
+by_id-total = then_total (on_total (λ (n : UnitName). n.id) nat_list_cmp_total) (on_total (λ (n : UnitName). n.version) version_cmp-total)
 
 pub numbers_rank : (units : List Package) → IsStrictWeakOrder (λ m n. is_lt (number_cmp units m n))
-numbers_rank units = ranks_by (options_total name_cmp-total) (name_at units)
+numbers_rank units = ranks_by (options_total by_id-total) (name_at units)
 
 -- what a sort by a comparing closure ensures
 pub sorted_by : {F : Type 0} {g : Mut F (Bor ℕ × (Bor ℕ × Unit {0})) Ordering} {f : F} (cmp : ℕ → ℕ → Ordering) (xs : List ℕ) → IsStrictWeakOrder (λ m n. is_lt (cmp m n))
@@ -47,8 +47,8 @@ both_equal Less b e = absurd (cc)
 both_equal Equal b e = (refl, e)
 both_equal Greater b e = absurd (cc)
 
-name_cmp-equal : (a b : UnitName) → name_cmp a b ≡ Equal → a ≡ b
-name_cmp-equal a b e =
+by_id-equal : (a b : UnitName) → by_id a b ≡ Equal → a ≡ b
+by_id-equal a b e =
     let both = both_equal (slice_cmp nat_cmp a.id b.id) (version_cmp a.version b.version) e in
     let id : a.id ≡ b.id = bytes_equal a.id b.id both.0 in
     let version : a.version ≡ b.version = version_cmp-equal a.version b.version both.1 in
@@ -64,8 +64,8 @@ less Greater Greater turned fails other = cc
 -- Sorted numbers, each once, stand in the order of their units' names.
 pub rises : (units : List Package) (numbers : List ℕ) → HasDistinctNames units → IsSorted (number_cmp units) numbers → AllPairs (λ m n. m ≢ n) numbers → AllPairs (IsBefore units) numbers
 rises units numbers names sorted distinct i j d below inside u v first second =
-    less (name_cmp u.name v.name) (name_cmp v.name u.name) (name_cmp-total.antisymm u.name v.name) not_less
-    (λ equal. distinct i j d below inside (one_number units names (get_or numbers i d) (get_or numbers j d) u v first second (name_cmp-equal u.name v.name equal)))
+    less (by_id u.name v.name) (by_id v.name u.name) (by_id-total.antisymm u.name v.name) not_less
+    (λ equal. distinct i j d below inside (one_number units names (get_or numbers i d) (get_or numbers j d) u v first second (by_id-equal u.name v.name equal)))
   where
     at_first : name_at units (get_or numbers i d) ≡ Some u.name
     at_first = ap (option_map (λ (w : Package). w.name)) first
@@ -76,8 +76,8 @@ rises units numbers names sorted distinct i j d below inside u v first second =
     far : is_lt (number_cmp units (get_or numbers j d) (get_or numbers i d)) ≡ false
     far = sorted_far (λ m n. is_lt (number_cmp units m n)) (numbers_rank units) numbers sorted i j d (omega arith) inside
 
-    not_less : is_lt (name_cmp v.name u.name) ≡ false
-    not_less = sym (ap (λ (o : Ordering). is_lt o) (λ k. option_cmp name_cmp (at_second k) (at_first k))) ∙ far
+    not_less : is_lt (by_id v.name u.name) ≡ false
+    not_less = sym (ap (λ (o : Ordering). is_lt o) (λ k. option_cmp by_id (at_second k) (at_first k))) ∙ far
 
 -- ---- each once
 

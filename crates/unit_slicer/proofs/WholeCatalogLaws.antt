@@ -1,4 +1,4 @@
--- The part of a valid choice that lies in the slice is valid, where all needs are greedy.
+-- The part of a valid choice that chains lead to is valid, where they may follow all needs.
 use Rattle.std.proofs.Common.{◌≡◌, ◌≢◌, ℕ, zero, suc, ◌<◌, ◌≤◌, ◌⊎◌, inl, inr, Bool, true, false, List, [], ◌∷◌, length, get_or, refl, sym, ap, ◌∙◌, subst, arith}
 use Rattle.std.specs.Prelude.{All, AllPairs, Contains, IsTrue}
 use Rattle.std.proofs.lemmas.List.{get_or-map, length-map, get_or_default}
@@ -10,32 +10,32 @@ use Rattle.ldap_filter.specs.EnvPairs.{EnvPair}
 use Rattle.unit_model.specs.Applies.{filter_true}
 use Rattle.unit_model.specs.Matches.{Matches}
 use Rattle.unit_model.specs.Met.{HasCount, HasEnough, IsMet}
-use Rattle.unit_model.specs.Slice.{LeadsTo, Begins, GoesOn, IsGreedy, IsInSlice}
+use Rattle.unit_model.specs.Slice.{LeadsTo, HasChain, Begins, GoesOn, IsGreedy, IsInSlice}
 use Rattle.unit_model.specs.Valid.{names, Collide, IsValid}
 use Rattle.unit_model.specs.declared.name.UnitName.{UnitName}
 use Rattle.unit_model.specs.declared.required.Required.{Required}
 use Rattle.unit_model.specs.declared.unit.Unit.{Unit as Package}
 use Rattle.unit_catalog.specs.At.{HasAt}
 use Rattle.unit_slicer.specs.WholeCatalog.{IsPart, HasParts, NeedsGreedily, KeepsValid}
-use Rattle.unit_slicer.specs.Members.{AreAllFound}
+use Rattle.unit_slicer.specs.Members.{AreOfSlice}
 use Rattle.unit_slicer.proofs.OrderLaws.{contains_later}
 use Rattle.unit_slicer.proofs.SliceLaws.{at_contained}
 
 -- ---- parts of lists
 
 module _ {X : Type 0} (P : X → Type 0) where
-  part_all : (Q : X → Type 0) (xs part : List X) → IsPart P xs part → All Q xs → All Q part
+  pub part_all : (Q : X → Type 0) (xs part : List X) → IsPart P xs part → All Q xs → All Q part
   part_all Q [] part is all = subst (All Q) (sym is) (All-nil Q)
   part_all Q (x ∷ xs) part (inl in') all =
       subst (All Q) (sym in'.2) (All-cons Q x in'.1 (All-head Q x xs all) (part_all Q xs in'.1 in'.3 (All-tail Q x xs all)))
   part_all Q (x ∷ xs) part (inr out) all = part_all Q xs part out.1 (All-tail Q x xs all)
 
-  part_in : (xs part : List X) → IsPart P xs part → All P part
+  pub part_in : (xs part : List X) → IsPart P xs part → All P part
   part_in [] part is = subst (All P) (sym is) (All-nil P)
   part_in (x ∷ xs) part (inl in') = subst (All P) (sym in'.2) (All-cons P x in'.1 in'.0 (part_in xs in'.1 in'.3))
   part_in (x ∷ xs) part (inr out) = part_in xs part out.1
 
-  part_pairs : (R : X → X → Type 0) (xs part : List X) → IsPart P xs part → AllPairs R xs → AllPairs R part
+  pub part_pairs : (R : X → X → Type 0) (xs part : List X) → IsPart P xs part → AllPairs R xs → AllPairs R part
   part_pairs R [] part is pairs = subst (AllPairs R) (sym is) pairs
   part_pairs R (x ∷ xs) part (inl in') pairs =
       let head : All (R x) xs = λ k d inside. pairs 0 (suc k) d (omega arith) (omega arith) in
@@ -46,7 +46,7 @@ module _ {X : Type 0} (P : X → Type 0) where
       part_pairs R xs part out.1 tail
 
   -- an element with the property is in the part
-  part_has : (xs part : List X) (k : ℕ) (x : X) → IsPart P xs part → k < length xs → get_or xs k x ≡ x → P x → Contains part x
+  pub part_has : (xs part : List X) (k : ℕ) (x : X) → IsPart P xs part → k < length xs → get_or xs k x ≡ x → P x → Contains part x
   part_has [] part k x is inside here has = absurd (omega arith)
   part_has (y ∷ xs) part zero x (inl in') inside here has =
       subst (λ (zs : List X). Contains zs x) (sym in'.2) (0, omega arith, here)
@@ -110,7 +110,7 @@ part_there P (x ∷ xs) each =
     let rest = part_there P xs (All-tail (λ y. P y ⊎ ¬ (P y)) x xs each) in
     elim (All-head (λ y. P y ⊎ ¬ (P y)) x xs each) [ inl in' ↦ (x ∷ rest.0, inl (in', rest.0, refl, rest.1)) | inr out ↦ (rest.0, inr (out, rest.1)) ]
 
-pub parts_there : (units : List Package) (roots : List UnitName) (env : List EnvPair) (numbers : List ℕ) → AreAllFound units roots env numbers → HasParts units roots env
+pub parts_there : (units : List Package) (roots : List UnitName) (env : List EnvPair) (numbers : List ℕ) → AreOfSlice units roots env numbers → HasParts units roots env
 parts_there units roots env numbers all chosen there = part_there (IsInSlice units roots env) chosen (λ k d inside. decided (get_or chosen k d) (there k d inside))
   where
     decided : (u : Package) → Contains units u → IsInSlice units roots env u ⊎ ¬ (IsInSlice units roots env u)
@@ -138,10 +138,11 @@ member_named units u has =
 
 -- ---- the law
 
-module _ (units : List Package) (roots : List UnitName) (env : List EnvPair) (greedily : NeedsGreedily units roots env)
-    (some : List UnitName) (chosen part : List Package) (among : All (Contains roots) some) (there : All (Contains units) chosen) (valid : IsValid chosen some env) (is : IsPart (IsInSlice units roots env) chosen part) where
+module _ (Allowed : Required → Type 0) (units : List Package) (roots : List UnitName) (env : List EnvPair)
+    (followed : (u : Package) → HasChain units Allowed roots env u → All (λ r. IsTrue (filter_true env r.filter) → Allowed r ⊎ (r.min ≡ 0)) u.required)
+    (some : List UnitName) (chosen part : List Package) (among : All (Contains roots) some) (there : All (Contains units) chosen) (valid : IsValid chosen some env) (is : IsPart (HasChain units Allowed roots env) chosen part) where
   abbrev IsIn : Package → Type 0
-  IsIn = IsInSlice units roots env
+  IsIn = HasChain units Allowed roots env
 
   has_roots : All (Contains (names part)) some
   has_roots k d inside =
@@ -161,10 +162,10 @@ module _ (units : List Package) (roots : List UnitName) (env : List EnvPair) (gr
       own_requirements = All-contains (λ v. All (λ q. IsMet q chosen env) v.required) chosen u valid.met own
 
       -- where it is followed, all that match are in the slice
-      match_in : IsTrue r.greedy → IsTrue (filter_true env r.filter) → 0 < r.max → All (λ v. Matches r v → IsIn v) chosen
-      match_in greedy on positive k d inside matches =
+      match_in : Allowed r → IsTrue (filter_true env r.filter) → 0 < r.max → All (λ v. Matches r v → IsIn v) chosen
+      match_in allowed on positive k d inside matches =
           let v : Package = get_or chosen k d in
-          let leads : LeadsTo IsGreedy env u v = (has.0, r, has.1, has.2, (greedy, on, positive, matches)) in
+          let leads : LeadsTo Allowed env u v = (has.0, r, has.1, has.2, (allowed, on, positive, matches)) in
           GoesOn u v in_slice (there k d inside) (valid.apply k d inside) leads
 
       fewer : HasEnough r chosen → r.min ≡ 0 → HasEnough r part
@@ -174,22 +175,22 @@ module _ (units : List Package) (roots : List UnitName) (env : List EnvPair) (gr
           let most = enough.most in
           record { count = rest.0; counted = rest.2; least = omega arith; most = omega arith }
 
-      asked : HasEnough r chosen → IsTrue (filter_true env r.filter) → IsTrue r.greedy → (r.max ≡ 0) ⊎ (r.max ≢ 0) → HasEnough r part
-      asked enough on greedy (inl zero_most) =
+      asked : HasEnough r chosen → IsTrue (filter_true env r.filter) → Allowed r → (r.max ≡ 0) ⊎ (r.max ≢ 0) → HasEnough r part
+      asked enough on allowed (inl zero_most) =
           let least = enough.least in
           let most = enough.most in
           fewer enough (omega arith)
-      asked enough on greedy (inr positive) = record {
+      asked enough on allowed (inr positive) = record {
         count = enough.count;
-        counted = part_count_all IsIn (Matches r) chosen part enough.count is (match_in greedy on (omega arith)) enough.counted;
+        counted = part_count_all IsIn (Matches r) chosen part enough.count is (match_in allowed on (omega arith)) enough.counted;
         least = enough.least;
         most = enough.most;
       }
 
       by_filter : (b : Bool) → filter_true env r.filter ≡ b → HasEnough r chosen → IsMet r part env
       by_filter false off enough = inl off
-      by_filter true on enough = inr (elim (All-contains (λ q. IsTrue (filter_true env q.filter) → IsTrue q.greedy ⊎ (q.min ≡ 0)) u.required r (greedily u in_slice) has on) [
-        | inl greedy ↦ asked enough on greedy (cases_eq r.max 0)
+      by_filter true on enough = inr (elim (All-contains (λ q. IsTrue (filter_true env q.filter) → Allowed q ⊎ (q.min ≡ 0)) u.required r (followed u in_slice) has on) [
+        | inl allowed ↦ asked enough on allowed (cases_eq r.max 0)
         | inr none ↦ fewer enough none
       ])
 
@@ -215,4 +216,4 @@ module _ (units : List Package) (roots : List UnitName) (env : List EnvPair) (gr
   }
 
 pub keeps_valid : (units : List Package) (roots : List UnitName) (env : List EnvPair) → NeedsGreedily units roots env → KeepsValid units roots env
-keeps_valid units roots env greedily some chosen part among there valid is = part_valid units roots env greedily some chosen part among there valid is
+keeps_valid units roots env greedily some chosen part among there valid is = part_valid IsGreedy units roots env greedily some chosen part among there valid is

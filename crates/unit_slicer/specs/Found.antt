@@ -10,6 +10,7 @@ pub record Numbers : Type 0 where
 pub record AreMarked (numbers : List ℕ) (marks : List Bool) : Type 0 where
   pub few : length numbers ≤ 8192
   pub distinct : AllPairs (λ m n. m ≢ n) numbers
+  pub within : All (λ n. n < length marks) numbers
   pub marked : (n : ℕ) → n < length marks → IsTrue (slice_index_or marks n false) ↔ Contains numbers n
 
 -- Behind the old numbers stand new ones, each of which has the property, and all that have it are there.

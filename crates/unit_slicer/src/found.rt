@@ -1,4 +1,4 @@
-ghost use Rattle.std.specs.Prelude.{◌≡◌, ◌≢◌, ℕ, ◌<◌, ◌≤◌, [], length, Ok, Err, IfOk, OnOk, AllPairs, slice_get};
+ghost use Rattle.std.specs.Prelude.{◌≡◌, ◌≢◌, ℕ, ◌<◌, ◌≤◌, [], length, Ok, Err, IfOk, OnOk, AllPairs, slice_get, ◌↔◌, IsTrue, Contains};
 ghost use Rattle.unit_slicer.specs.Found.{Numbers, Adds, AreTooMany};
 ghost use Rattle.unit_slicer.specs.declared.fault.SliceFault.TheVariants as faults;
 
@@ -45,6 +45,13 @@ impl Found {
         ensures few { length self.now.found ≤ 8192 }
     {
         self.numbers.get(place).copied()
+    }
+
+    /// Whether the number was found.
+    pub(crate) fn has(&self, number: u32) -> bool
+        ensures { IsTrue result ↔ Contains self.now.found number }
+    {
+        (number as usize) < self.seen.len() && self.seen[number as usize]
     }
 
     /// Adds the number, unless it was found before.

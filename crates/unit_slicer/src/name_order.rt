@@ -2,7 +2,8 @@
 
 ghost use Rattle.std.specs.Prelude.{◌≡◌};
 ghost use Rattle.std.specs.List.Sorted.{IsPermutation, IsSorted};
-ghost use Rattle.unit_slicer.specs.NameOrder.{name_cmp, number_cmp};
+ghost use Rattle.unit_catalog.specs.Order.{by_id};
+ghost use Rattle.unit_slicer.specs.NameOrder.{number_cmp};
 
 use std::cmp::Ordering;
 use unit_catalog::Catalog;
@@ -28,7 +29,7 @@ fn by_name_at(catalog: &Catalog, number: u32, other: u32) -> Ordering
 }
 
 fn by_name(name: &UnitName, other: &UnitName) -> Ordering
-    ensures { result ≡ name_cmp name.now other.now }
+    ensures { result ≡ by_id name.now other.now }
 {
     name.id
         .bytes()

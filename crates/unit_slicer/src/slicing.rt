@@ -1,13 +1,13 @@
-ghost use Rattle.std.specs.Prelude.{◌≡◌, ◌≤◌, length, Err, IfOk, IsErr};
-ghost use Rattle.unit_catalog.specs.Named.{HasDistinctNames};
-ghost use Rattle.unit_slicer.specs.Members.{AreMembers, AreAllFound, HasMoreThan};
+ghost use Rattle.std.specs.Prelude.{◌≡◌, Err, IfOk, IsErr};
+ghost use Rattle.unit_catalog.specs.Order.{AreMembers};
+ghost use Rattle.unit_slicer.specs.Members.{AreOfSlice, HasMoreThan};
 ghost use Rattle.unit_slicer.specs.WholeCatalog.{HasParts, NeedsGreedily, KeepsValid};
 ghost use Rattle.unit_slicer.specs.declared.fault.SliceFault.TheVariants as faults;
 
-use crate::adding::{add_next, add_roots};
 use crate::fault::SliceFault;
-use crate::found::Found;
 use crate::name_order::sort_by_name;
+use crate::searching::find_all;
+use crate::way::{Links, Way};
 use ldap_filter::Env;
 use osgi_version::List;
 use unit_catalog::Catalog;
@@ -18,8 +18,8 @@ use unit_model::UnitName;
 /// that isn't in the catalog adds nothing. It takes as long as the requirements of the slice have providers, and then
 /// sorts once.
 pub fn slice(catalog: &Catalog, roots: &List<UnitName>, env: &Env) -> Result<List<u32>, SliceFault>
-    ensures members { IfOk result (AreMembers catalog.now roots.now env.now) }
-    ensures few { IfOk result (λ numbers. length numbers ≤ 8192) }
+    ensures members { IfOk result (AreMembers catalog.now) }
+    ensures slice { IfOk result (AreOfSlice catalog.now roots.now env.now) }
 
     // `TooLarge` comes exactly where there are over 8,192 of them.
     ensures large { result ≡ Err faults.TooLarge → HasMoreThan 8192 catalog.now roots.now env.now }
@@ -29,24 +29,14 @@ pub fn slice(catalog: &Catalog, roots: &List<UnitName>, env: &Env) -> Result<Lis
     ensures parts { IfOk result (λ numbers. HasParts catalog.now roots.now env.now) }
     ensures whole_catalog { NeedsGreedily catalog.now roots.now env.now → KeepsValid catalog.now roots.now env.now }
 {
-    let found = find_all(catalog, roots, env)?;
+    let way = Way {
+        catalog,
+        env,
+        links: Links::Greedy,
+        among: None,
+    };
+    let found = find_all(&way, roots)?;
     let mut numbers = found.into_numbers();
     sort_by_name(catalog, &mut numbers);
     Ok(List::from_vec(numbers))
-}
-
-/// All units in the slice, each worked off once.
-fn find_all(catalog: &Catalog, roots: &List<UnitName>, env: &Env) -> Result<Found, SliceFault>
-    ensures names { HasDistinctNames catalog.now }
-    ensures all { IfOk result (λ found. AreAllFound catalog.now roots.now env.now found.found) }
-    ensures large { result ≡ Err faults.TooLarge → HasMoreThan 8192 catalog.now roots.now env.now }
-{
-    let mut found = Found::new(roots.allocator(), catalog.len())?;
-    add_roots(&mut found, catalog, roots.items(), env)?;
-    let mut place = 0;
-    while let Some(number) = found.get(place) {
-        add_next(&mut found, catalog, number, env)?;
-        place += 1;
-    }
-    Ok(found)
 }

@@ -7,12 +7,12 @@ pub returns-in_err-add_own-clause-too_large : goal.returns-in_err-add_own-clause
 returns-in_err-add_own-clause-too_large c =
     let p = err_from_is_err_and c.from_residual.result c.from_residual.ensures.1 in
     rw (p.1, p.2)
-    (λ e. too_many_at (IsOwn c.args.catalog.now c.args.env.now) c.args.numbers.now c.loop-number.number-index 0 c.args.found.now c.loop-number.found c.loop-number-test.true c.loop-number.invariant (c.in_err-add_own.ensures.too_large e))
+    (λ e. too_many_at (IsOwn c.args.way.now) c.args.numbers.now c.loop-number.number-index 0 c.args.found.now c.loop-number.found c.loop-number-test.true c.loop-number.invariant (c.in_err-add_own.ensures.too_large e))
 
 pub loop-number-preserved : goal.loop-number-preserved
 loop-number-preserved c =
-    adds_more (IsOwn c.args.catalog.now c.args.env.now) c.args.numbers.now c.loop-number.number-index 0 c.args.found.now c.loop-number.found c.add_own.new.found c.loop-number-test.true c.loop-number.invariant c.in_ok-add_own.ensures.ok
+    adds_more (IsOwn c.args.way.now) c.args.numbers.now c.loop-number.number-index 0 c.args.found.now c.loop-number.found c.add_own.new.found c.loop-number-test.true c.loop-number.invariant c.in_ok-add_own.ensures.ok
 
 pub returns-clause-ok : goal.returns-clause-ok
 returns-clause-ok c =
-    adds_all (IsOwn c.args.catalog.now c.args.env.now) c.args.numbers.now c.loop-number.number-index c.args.found.now c.loop-number.found c.loop-number-test.false c.loop-number.invariant
+    adds_all (IsOwn c.args.way.now) c.args.numbers.now c.loop-number.number-index c.args.found.now c.loop-number.found c.loop-number-test.false c.loop-number.invariant

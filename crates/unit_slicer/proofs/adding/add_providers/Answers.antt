@@ -9,22 +9,22 @@ use Rattle.unit_slicer.proofs.adding.add_providers.Goals as goal
 
 pub returns-clause-ok : goal.returns-clause-ok
 returns-clause-ok c =
-    let units = c.args.catalog.now in
-    let env = c.args.env.now in
+    let way = c.args.way.now in
+    let units = way.catalog.now in
     let r = c.args.required.now in
     let numbers = c.items.result.now in
     let are : AreProviders units r numbers = subst (AreProviders units r) (sym c.items.ensures) c.in_ok-providers.ensures in
-    let followed : IsFollowed env r = c.is_followed.ensures.0 c.if-not-is_followed.false in
+    let followed : IsFollowed way r = c.is_followed.ensures.0 c.if-not-is_followed.false in
     on_ok_weaker c.add_each.result
-    (adds_same (λ n. Any (λ m. IsOwn units env m n) numbers) (IsProvider units env r) c.args.found.now c.add_each.new.found (provider_of_any units env r numbers are followed) (any_of_provider units env r numbers are))
+    (adds_same (λ n. Any (λ m. IsOwn way m n) numbers) (IsProvider way r) c.args.found.now c.add_each.new.found (provider_of_any way r numbers are followed) (any_of_provider way r numbers are))
     c.add_each.ensures.ok
 
 pub returns-clause-too_large : goal.returns-clause-too_large
 returns-clause-too_large c = λ e.
-    let units = c.args.catalog.now in
-    let env = c.args.env.now in
+    let way = c.args.way.now in
+    let units = way.catalog.now in
     let r = c.args.required.now in
     let numbers = c.items.result.now in
     let are : AreProviders units r numbers = subst (AreProviders units r) (sym c.items.ensures) c.in_ok-providers.ensures in
-    let followed : IsFollowed env r = c.is_followed.ensures.0 c.if-not-is_followed.false in
-    too_many_same (λ n. Any (λ m. IsOwn units env m n) numbers) (IsProvider units env r) c.args.found.now (provider_of_any units env r numbers are followed) (c.add_each.ensures.too_large e)
+    let followed : IsFollowed way r = c.is_followed.ensures.0 c.if-not-is_followed.false in
+    too_many_same (λ n. Any (λ m. IsOwn way m n) numbers) (IsProvider way r) c.args.found.now (provider_of_any way r numbers are followed) (c.add_each.ensures.too_large e)

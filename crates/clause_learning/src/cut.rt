@@ -156,8 +156,8 @@ impl Cut {
         Ok(())
     }
 
-    /// Goes one entry down.
-    fn step(&mut self, trail: &Trail) -> Result<(), NoMemory>
+    /// Goes one entry down. The variable of one that is resolved is put behind those that were met.
+    fn step(&mut self, trail: &Trail, met: &mut List<u32>) -> Result<(), NoMemory>
         requires good { IsTrail trail.now }
         requires cut { IsCut trail.now self.old }
         requires above { self.old.stop < self.old.top }
@@ -172,12 +172,13 @@ impl Cut {
             self.top = place;
             return Ok(());
         }
+        met.push(trail.entries[place].lit.variable)?;
         self.resolve(trail, place)?;
         Ok(())
     }
 
     /// Resolves down to the stop.
-    fn run(&mut self, trail: &Trail) -> Result<(), NoMemory>
+    fn run(&mut self, trail: &Trail, met: &mut List<u32>) -> Result<(), NoMemory>
         requires good { IsTrail trail.now }
         requires cut { IsCut trail.now self.old }
         requires reason { ReasonsFrom trail.now self.old.bottom }
@@ -187,18 +188,20 @@ impl Cut {
         ensures stop { OnOk result (self.new.stop ≤ self.old.stop) }
     {
         while self.stop < self.top {
-            self.step(trail)?;
+            self.step(trail, met)?;
         }
         Ok(())
     }
 
-    /// Analyses a violated constraint down to the lowest marked place from one below `bottom` on, or to `stop`.
+    /// Analyses a violated constraint down to the lowest marked place from one below `bottom` on, or to `stop`. The
+    /// variables that are resolved are put behind those that were met.
     pub(crate) fn of(
         alloc: Global,
         trail: &Trail,
         conflict: u32,
         bottom: usize,
         stop: usize,
+        met: &mut List<u32>,
     ) -> Result<Cut, NoMemory>
         requires good { IsTrail trail.now }
         requires from_one { 0 < conflict }
@@ -213,7 +216,7 @@ impl Cut {
     {
         let mut cut = Cut::new(alloc, trail, bottom, stop)?;
         cut.begin(trail, conflict)?;
-        cut.run(trail)?;
+        cut.run(trail, met)?;
         Ok(cut)
     }
 

@@ -24,6 +24,9 @@ pub struct Learned {
     pub line: Line,
     /// One above the last entry that the clause's other literals are the complements of, or 0 where there are none.
     pub floor: usize,
+    /// The variables that the conflict rests on, those of the clause and those that were resolved: a hint which ones
+    /// matter.
+    pub met: List<u32>,
 }
 
 /// The hints in the order in which the checker takes them.
@@ -33,6 +36,14 @@ fn turned(hints: Vec<u32>) -> List<u32>
     let mut hints = hints;
     hints.reverse();
     List::from_vec(hints)
+}
+
+/// Puts the variables of literals behind those that were met.
+fn add_variables(met: &mut List<u32>, lits: &[Lit]) -> Result<(), NoMemory> {
+    for lit in lits {
+        met.push(lit.variable)?;
+    }
+    Ok(())
 }
 
 /// One above the place of the second literal, or 0 where there is none.
@@ -62,12 +73,21 @@ pub fn learn(alloc: Global, trail: &Trail, start: usize, conflict: u32) -> Resul
     ensures fresh { IfOk result (λ learned. Fresh learned.line.clause trail.now.kept.constraints) }
     ensures asserting { IfOk result (λ learned. IsAsserting trail.now start learned.floor learned.line.clause) }
 {
-    let cut = Cut::of(alloc, trail, conflict, start + 1, trail.entries.len())?;
+    let mut met = List::new(alloc);
+    let cut = Cut::of(
+        alloc,
+        trail,
+        conflict,
+        start + 1,
+        trail.entries.len(),
+        &mut met,
+    )?;
     let clause = cut.clause(alloc, trail)?;
     let floor = floor_of(cut.places.as_slice(), clause.items());
+    add_variables(&mut met, clause.items())?;
     let hints = turned(cut.hints);
     let line = Line { clause, hints };
-    Ok(Learned { line, floor })
+    Ok(Learned { line, floor, met })
 }
 
 /// The empty clause, from a conflict where each entry was forced.
@@ -80,7 +100,8 @@ pub fn refute(alloc: Global, trail: &Trail, conflict: u32) -> Result<Line, NoMem
     ensures checks { IfOk result (λ line. Checks (length trail.now.kept.values) trail.now.kept.constraints line) }
     ensures empty { IfOk result (λ line. line.clause ≡ []) }
 {
-    let cut = Cut::of(alloc, trail, conflict, 0, 0)?;
+    let mut met = List::new(alloc);
+    let cut = Cut::of(alloc, trail, conflict, 0, 0, &mut met)?;
     let clause = List::new(alloc);
     let hints = turned(cut.hints);
     Ok(Line { clause, hints })

@@ -5,6 +5,8 @@
 mod agenda;
 mod answer;
 mod levels;
+mod pace;
+mod ranking;
 mod search;
 mod solver;
 mod stepping;

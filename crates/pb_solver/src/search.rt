@@ -94,7 +94,18 @@ impl Search {
         self.found = self.levels.settle(from, steps);
     }
 
-    /// Gives an open variable the value that is wanted, and then makes true what is forced.
+    /// The value that a variable is tried with: the one that is wanted until a clause is learned, then its last one.
+    fn first_value(&self, variable: u32) -> bool
+        requires { variable < length self.now.wanted.items }
+        ensures { self.now.lines ≡ [] → result ≡ wish_of self.now variable }
+    {
+        if self.lines.is_empty() {
+            return self.wanted[variable as usize];
+        }
+        self.agenda.last_value(variable)
+    }
+
+    /// Gives an open variable a value, and then makes true what is forced.
     pub(crate) fn decide<L: Ledger>(
         &mut self,
         variable: u32,
@@ -110,13 +121,14 @@ impl Search {
         ensures steps { OnOk result (steps.new + spent self.old ≤ steps.old + spent self.new) }
         ensures err { OnErr result (steps.new ≡ steps.old) }
     {
-        let positive = self.wanted[variable as usize];
+        let positive = self.first_value(variable);
         let found = self.levels.decide(Lit { variable, positive }, steps)?;
         self.found = found;
         Ok(())
     }
 
-    /// Keeps a line that was learned: goes back to where its clause forces its first literal, and adds it.
+    /// Keeps a line that was learned: goes back to where its clause forces its first literal, or to no decision, and adds
+    /// it.
     pub(crate) fn keep<L: Ledger>(
         &mut self,
         start: usize,
@@ -139,9 +151,10 @@ impl Search {
         ensures steps { OnOk result (steps.new + spent self.old ≤ steps.old + spent self.new) }
         ensures err { OnErr result (steps.new + spent self.old ≤ steps.old + most_spent self.old) }
     {
-        let Learned { line, floor } = learned;
+        let Learned { line, floor, met } = learned;
+        let entries = self.levels.trail.entries.as_slice();
+        let floor = self.agenda.note_conflict(met.items(), entries, floor);
         self.levels.go_back(floor, steps);
-        self.agenda.restart();
         self.levels.add(&line.clause)?;
         self.lines.push(line)?;
         Ok(())

@@ -14,7 +14,7 @@ use Rattle.pb_solver.proofs.search.Search.keep.Goals as goal
 
 pub add-requires-clause-rests : goal.add-requires-clause-rests
 add-requires-clause-rests g c =
-    back_rests c.args.self.now.levels c.go_back.new.self c.args.start c.args.learned.floor c.args.learned.line.clause c.requires.holds.levels c.requires.decided c.requires.start c.go_back.ensures.back c.requires.asserting
+    back_rests c.args.self.now.levels c.go_back.new.self c.args.start c.args.learned.floor c.note_conflict-floor.result c.args.learned.line.clause c.requires.holds.levels c.requires.decided c.requires.start c.go_back.ensures.back c.note_conflict-floor.ensures c.requires.asserting
 
 pub returns-in_err-add-clause-err : goal.returns-in_err-add-clause-err
 returns-in_err-add-clause-err g c =
@@ -28,9 +28,9 @@ pub returns-clause-holds : goal.returns-clause-holds
 returns-clause-holds g c =
     let constraints : c.add.new.self.trail.kept.constraints ≡ c.args.self.now.levels.trail.kept.constraints ++ clause c.args.learned.line.clause ∷ [] = c.in_ok-add.ensures.constraints ∙ ap (λ (cs : List AtLeast). cs ++ clause c.args.learned.line.clause ∷ []) c.go_back.ensures.back.constraints in
     let variables : length c.add.new.self.trail.kept.values ≡ length c.args.self.now.levels.trail.kept.values = ap length c.add.ensures.values ∙ c.go_back.ensures.back.variables in
-    let after : List Line → Search = λ ls. record { levels = c.add.new.self; lines = ls; found = c.args.self.now.found; wanted = c.args.self.now.wanted; agenda = c.restart.new.self; budget = c.args.self.now.budget } in
+    let after : List Line → Search = λ ls. record { levels = c.add.new.self; lines = ls; found = c.args.self.now.found; wanted = c.args.self.now.wanted; agenda = c.note_conflict-floor.new.self; budget = c.args.self.now.budget } in
     let P : List Line → Type 0 = λ ls. SearchHolds (after ls) in
-    subst P (sym c.in_ok-push.ensures.ok) (SearchHolds-longer c.args.self.now c.add.new.self c.restart.new.self c.args.learned.line c.requires.holds c.in_ok-add.ensures.holds constraints variables c.requires.room c.requires.checks c.requires.fresh c.requires.not_wanted)
+    subst P (sym c.in_ok-push.ensures.ok) (SearchHolds-longer c.args.self.now c.add.new.self c.note_conflict-floor.new.self c.args.learned.line c.requires.holds c.in_ok-add.ensures.holds constraints variables c.requires.room c.requires.checks c.requires.fresh c.requires.not_wanted)
 
 pub returns-clause-rest : goal.returns-clause-rest
 returns-clause-rest g c =
@@ -40,8 +40,8 @@ pub returns-clause-steps : goal.returns-clause-steps
 returns-clause-steps g c =
     let constraints : c.add.new.self.trail.kept.constraints ≡ c.args.self.now.levels.trail.kept.constraints ++ clause c.args.learned.line.clause ∷ [] = c.in_ok-add.ensures.constraints ∙ ap (λ (cs : List AtLeast). cs ++ clause c.args.learned.line.clause ∷ []) c.go_back.ensures.back.constraints in
     let variables : length c.add.new.self.trail.kept.values ≡ length c.args.self.now.levels.trail.kept.values = ap length c.add.ensures.values ∙ c.go_back.ensures.back.variables in
-    let after : List Line → Search = λ ls. record { levels = c.add.new.self; lines = ls; found = c.args.self.now.found; wanted = c.args.self.now.wanted; agenda = c.restart.new.self; budget = c.args.self.now.budget } in
+    let after : List Line → Search = λ ls. record { levels = c.add.new.self; lines = ls; found = c.args.self.now.found; wanted = c.args.self.now.wanted; agenda = c.note_conflict-floor.new.self; budget = c.args.self.now.budget } in
     let P : List Line → Type 0 = λ ls. c.go_back.new.steps + spent c.args.self.now ≤ c.args.steps.now + spent (after ls) in
     let Q : List Entry → Type 0 = λ es. c.go_back.new.steps + weight c.args.self.now.levels.trail.kept.constraints es ≡ c.args.steps.now + weight c.args.self.now.levels.trail.kept.constraints c.args.self.now.levels.trail.entries.items in
     let counted = subst Q (sym c.add.ensures.entries) c.go_back.ensures.steps in
-    subst P (sym c.in_ok-push.ensures.ok) (spent_longer c.args.self.now (longer c.args.self.now c.add.new.self c.restart.new.self c.args.learned.line) (clause c.args.learned.line.clause) c.args.steps.now c.go_back.new.steps c.requires.holds (same_longer c.args.self.now c.add.new.self c.restart.new.self c.args.learned.line c.requires.holds constraints variables) (length_push c.args.self.now.lines c.args.learned.line) constraints counted)
+    subst P (sym c.in_ok-push.ensures.ok) (spent_longer c.args.self.now (longer c.args.self.now c.add.new.self c.note_conflict-floor.new.self c.args.learned.line) (clause c.args.learned.line.clause) c.args.steps.now c.go_back.new.steps c.requires.holds (same_longer c.args.self.now c.add.new.self c.note_conflict-floor.new.self c.args.learned.line c.requires.holds constraints variables) (length_push c.args.self.now.lines c.args.learned.line) constraints counted)

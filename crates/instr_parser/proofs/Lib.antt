@@ -1,4 +1,3 @@
-pub mod Fronts
 pub mod NameForms
 pub mod ParamSteps
 pub mod PieceSteps

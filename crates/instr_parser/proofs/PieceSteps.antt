@@ -1,13 +1,12 @@
 -- The walk over the pieces of a text.
-use Rattle.std.proofs.Common.{◌≡◌, ℕ, ◌+◌, ◌<◌, ◌≤◌, Bool, true, false, cond, List, [], ◌∷◌, ◌++◌, length, drop, get_or, Option, option_to_list, Result, Ok, Err, Bor, refl, sym, ap, ◌∙◌, append-nil, arith}
-use Rattle.std.specs.List.{slice_split, onto_first}
+use Rattle.std.proofs.Common.{◌≡◌, ℕ, ◌+◌, ◌<◌, ◌≤◌, List, ◌++◌, length, drop, get_or, Option, option_to_list, Result, Ok, Err, Bor, refl, sym, ap, ◌∙◌, append-nil}
 use Rattle.std.proofs.lemmas.List.{drop_more, drop_all}
 use Rattle.instr_text.specs.declared.fault.InstrRefusal.{InstrRefusal}
-use Rattle.instr_text.specs.Cut.{seen}
+use Rattle.instr_text.specs.Cut.{seen, sizes}
 use Rattle.instr_text.specs.Gives.{◌>>=◌}
 use Rattle.instr_text.proofs.Steps.{with_items, with_items-more}
 use Rattle.instr_parser.specs.declared.call.Call.{Call}
-use Rattle.instr_parser.specs.Calls.{piece_call, calls_from, sizes}
+use Rattle.instr_parser.specs.Calls.{piece_call, calls_from}
 
 module _ (plain : List ℕ) (at : ℕ) (found : List Call) (pieces : List (Bor (List ℕ))) (i : ℕ) (d : Bor (List ℕ)) where
   abbrev piece : List ℕ
@@ -42,16 +41,3 @@ pub calls_from-none : (plain : List ℕ) (at : ℕ) (found : List Call) (pieces 
     → with_items found (calls_from plain at (seen (drop i pieces))) ≡ Ok found
 unfolding calls_from
 calls_from-none plain at found pieces i past = rw (drop_all i pieces past) (ap Ok (append-nil found))
-
-sizes-onto : (b : ℕ) (pieces : List (List ℕ)) (n : ℕ) → sizes pieces ≡ n + 1 → sizes (onto_first b pieces) ≡ n + 2
-sizes-onto b [] n h = omega arith
-sizes-onto b (piece ∷ pieces) n h = omega arith
-
--- Pieces have one byte more than the text: its `;` and one behind the last.
-pub sizes-split : (p : ℕ → Bool) (text : List ℕ) → sizes (slice_split p text) ≡ length text + 1
-sizes-split p [] = refl
-sizes-split p (b ∷ text) = by (p b) (sizes-split p text)
-  where
-    by : (t : Bool) → sizes (slice_split p text) ≡ length text + 1 → sizes (cond t ([] ∷ slice_split p text) (onto_first b (slice_split p text))) ≡ length (b ∷ text) + 1
-    by true h = omega arith
-    by false h = let more = sizes-onto b (slice_split p text) (length text) h in omega arith

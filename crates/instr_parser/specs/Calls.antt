@@ -32,11 +32,6 @@ calls_from plain at [] = Ok []
 calls_from plain at (piece ∷ pieces) =
     piece_call plain at piece >>= λ call. calls_from plain (at + (length piece + 1)) pieces >>= λ calls. Ok (option_to_list call ++ calls)
 
--- how many bytes pieces have, with the `;` behind each
-abbrev pub sizes : List (List ℕ) → ℕ
-sizes [] = 0
-sizes (piece ∷ pieces) = length piece + 1 + sizes pieces
-
 -- the calls of a text, in a unit with these imports and this touchpoint
 abbrev pub calls_of : List ℕ → List ℕ → Option (List ℕ) → Result (List Call) InstrRefusal
 calls_of text imports touchpoint = calls_from (plain_kinds imports touchpoint) 0 (slice_split (λ b. b == 59) text)

@@ -1,5 +1,4 @@
 pub mod Calls
-pub mod Front
 pub mod Naming
 pub mod Opened
 pub mod Params

@@ -9,7 +9,7 @@ use Rattle.instr_text.specs.declared.fault.InstrRefusal.TheVariants.{UnknownActi
 use Rattle.instr_text.specs.Cut.{trimmed}
 use Rattle.instr_parser.specs.declared.naming.Meaning.{Meaning}
 use Rattle.instr_parser.specs.declared.naming.Meaning.TheVariants as means
-use Rattle.instr_parser.specs.Front.{behind}
+use Rattle.instr_text.specs.Front.{behind}
 use Rattle.instr_parser.specs.Tables.{actions, left_out}
 
 -- what the qualified names of the native actions begin with

@@ -8,7 +8,7 @@ use Rattle.instr_text.specs.Expanded.{expanded}
 use Rattle.instr_parser.specs.declared.call.Base.{Base}
 use Rattle.instr_parser.specs.declared.call.Base.TheVariants as base
 use Rattle.instr_parser.specs.declared.opened.Opened.{Opened as Read}
-use Rattle.instr_parser.specs.Front.{behind}
+use Rattle.instr_text.specs.Front.{behind}
 
 -- a base, where there is one, and what stands behind it
 abbrev pub Opened : Type 0

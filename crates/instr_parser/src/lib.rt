@@ -3,7 +3,6 @@
 
 mod call;
 mod form;
-mod front;
 mod naming;
 mod opened;
 mod params;

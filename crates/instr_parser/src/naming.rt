@@ -8,9 +8,8 @@ ghost use Rattle.instr_text.specs.Gives.{Gives};
 ghost use Rattle.instr_parser.specs.Naming.{is_native, qualified, imported, is_that, is_plain_in, plain_kinds, known, plainly, meaning_of, kind_of};
 ghost use Rattle.instr_parser.specs.Tables.{actions};
 
-use crate::front::behind_bytes;
 use crate::tables::{KINDS, actions, left_out};
-use instr_text::{InstrRefusal, split_bytes, trim_bytes};
+use instr_text::{InstrRefusal, behind_bytes, split_bytes, trim_bytes};
 use osgi_version::{NoMemory, Text};
 use std::alloc::Global;
 

@@ -5,8 +5,7 @@ ghost use Rattle.instr_text.specs.Gives.{Gives};
 ghost use Rattle.instr_parser.specs.Opened.{parted, opened, opened_seen};
 
 use crate::call::Base;
-use crate::front::behind;
-use instr_text::{InstrRefusal, expand};
+use instr_text::{InstrRefusal, behind, expand};
 use std::alloc::Global;
 
 /// A value behind its base, with what its variables stand for.

@@ -2,10 +2,10 @@
 
 ghost use Rattle.std.specs.Prelude.{◌≡◌, ◌≤◌, ◌+◌, ◌^◌, length};
 ghost use Rattle.std.specs.Option.{option_map};
-ghost use Rattle.instr_text.specs.Cut.{seen};
+ghost use Rattle.instr_text.specs.Cut.{seen, sizes};
 ghost use Rattle.instr_text.specs.Gives.{Gives};
 ghost use Rattle.instr_text.specs.Piece.{parts_seen};
-ghost use Rattle.instr_parser.specs.Calls.{call_of, call_at, piece_call, calls_from, calls_of, sizes};
+ghost use Rattle.instr_parser.specs.Calls.{call_of, call_at, piece_call, calls_from, calls_of};
 
 use crate::call::Call;
 use crate::naming::{kind_of, plain_kinds};

@@ -71,7 +71,7 @@ fn named(refusal: &InstrRefusal) -> Option<&Text> {
 
 /// The refusal's word, and the place or the text.
 pub(crate) fn push_refusal(line: &mut Vec<u8>, refusal: &InstrRefusal) -> Result<(), NoMemory> {
-    push_word(line, refusal.word())?;
+    line.extend_from_slice(refusal.word())?;
     if let InstrRefusal::BadSyntax { at } = refusal {
         push_word(line, " ")?;
         push_wide(line, *at)?;

@@ -1,5 +1,5 @@
 -- Parts of a text. White space is space, tab, LF, form feed or CR.
-use Rattle.std.specs.Prelude.{ℕ, ◌-◌, ◌==◌, nat_lt, Bool, List, length, take, drop, map, Option, Some, None, slice_index, if◌then◌else◌}
+use Rattle.std.specs.Prelude.{ℕ, ◌+◌, ◌-◌, ◌==◌, nat_lt, Bool, List, [], ◌∷◌, length, take, drop, map, Option, Some, None, slice_index, if◌then◌else◌}
 use Rattle.std.specs.List.{prefix_len, suffix_len, position_or_len, before_first, after_first}
 use Rattle.std.specs.Char.{is_ascii_whitespace}
 use Rattle.std.specs.Borrow.{Bor}
@@ -31,3 +31,8 @@ before_last mark text = if slice_index text (length text - 1) == mark then Some 
 -- the texts behind references
 abbrev pub seen : List (Bor (List ℕ)) → List (List ℕ)
 seen slices = map (λ s. s.now) slices
+
+-- how many bytes parts have, with one behind each
+abbrev pub sizes : List (List ℕ) → ℕ
+sizes [] = 0
+sizes (part ∷ parts) = length part + 1 + sizes parts

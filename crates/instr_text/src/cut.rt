@@ -1,9 +1,9 @@
 //! Parts of texts.
 
-ghost use Rattle.std.specs.Prelude.{◌≡◌, ◌<◌, ◌==◌, IfOk};
+ghost use Rattle.std.specs.Prelude.{◌≡◌, ◌+◌, ◌<◌, ◌==◌, length, IfOk};
 ghost use Rattle.std.specs.List.{slice_split};
 ghost use Rattle.std.specs.Option.{option_map};
-ghost use Rattle.instr_text.specs.Cut.{trimmed, cut, before_last, seen};
+ghost use Rattle.instr_text.specs.Cut.{trimmed, cut, before_last, seen, sizes};
 
 use osgi_version::NoMemory;
 use std::alloc::Global;
@@ -47,9 +47,10 @@ pub fn split(alloc: Global, text: &str, mark: char) -> Result<Vec<&str>, NoMemor
     Ok(parts)
 }
 
-/// What stands between the marks in bytes.
+/// What stands between the marks in bytes. With one byte behind each, the parts are one byte longer than the bytes.
 pub fn split_bytes(alloc: Global, bytes: &[u8], mark: u8) -> Result<Vec<&[u8]>, NoMemory>
-    ensures { IfOk result (λ parts. seen parts.items ≡ slice_split (λ b. b == mark) bytes.now) }
+    ensures value { IfOk result (λ parts. seen parts.items ≡ slice_split (λ b. b == mark) bytes.now) }
+    ensures sizes { IfOk result (λ parts. sizes (seen parts.items) ≡ length bytes.now + 1) }
 {
     let parts = bytes.split(|byte| *byte == mark).collect(alloc)?;
     Ok(parts)

@@ -1,6 +1,5 @@
 ghost use Rattle.std.specs.Prelude.{◌≡◌};
 ghost use Rattle.instr_text.specs.declared.fault.InstrRefusal.TheVariants as refusals;
-ghost use Rattle.instr_text.specs.Words.{refusal_word};
 
 use osgi_version::{NoMemory, Text};
 use std::alloc::{AllocError, AllocFailed};
@@ -41,27 +40,6 @@ pub enum InstrRefusal {
     BadPath(Text),
     #[error("out of memory")]
     NoMemory,
-}
-
-impl InstrRefusal {
-    /// The word that stands for this kind of refusal.
-    pub fn word(&self) -> &'static str
-        ensures { result.now ≡ refusal_word self.now }
-    {
-        match self {
-            InstrRefusal::BadSyntax { .. } => "BadSyntax",
-            InstrRefusal::UnknownAction(_) => "UnknownAction",
-            InstrRefusal::LeftOutAction(_) => "LeftOutAction",
-            InstrRefusal::MissingParam(_) => "MissingParam",
-            InstrRefusal::UnknownParam(_) => "UnknownParam",
-            InstrRefusal::RepeatedParam(_) => "RepeatedParam",
-            InstrRefusal::BadParam(_) => "BadParam",
-            InstrRefusal::UnknownVariable(_) => "UnknownVariable",
-            InstrRefusal::OutsideFolder(_) => "OutsideFolder",
-            InstrRefusal::BadPath(_) => "BadPath",
-            InstrRefusal::NoMemory => "NoMemory",
-        }
-    }
 }
 
 impl From<AllocError> for InstrRefusal {

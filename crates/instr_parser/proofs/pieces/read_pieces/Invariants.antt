@@ -1,7 +1,7 @@
 use Rattle.std.proofs.Common.{◌≡◌, ◌+◌, drop}
-use Rattle.instr_text.specs.Cut.{seen}
+use Rattle.instr_text.specs.Cut.{seen, sizes}
 use Rattle.instr_text.proofs.Steps.{with_items}
-use Rattle.instr_parser.specs.Calls.{calls_from, sizes}
+use Rattle.instr_parser.specs.Calls.{calls_from}
 use Rattle.instr_parser.proofs.pieces.read_pieces.Given as goal
 
 -- the calls so far and those of the pieces that are left, and how far the text is read

@@ -1,7 +1,7 @@
 mod AsciiLemmas
 mod CaseNames
 mod CutLemmas
-mod KeyLaws
+pub mod KeyLaws
 mod NumberLemmas
 mod OrderLemmas
 mod PartAgain

@@ -1,8 +1,10 @@
 -- The units of a p2.inf are in form.
-use Rattle.std.proofs.Common.{◌≡◌, ℕ, ◌-◌, ◌==◌, ◌&&◌, ◌||◌, not, nat_lt, Bool, true, false, List, [], ◌∷◌, ◌++◌, length, All, IfSome, Option, Some, None, option_and_then, is_none, Result, Ok, Err, codes, if◌then◌else◌, refl, subst, fold, lit≤}
+use Rattle.std.proofs.Common.{◌≡◌, ℕ, ◌-◌, ◌+◌, ◌≤◌, ◌==◌, ◌&&◌, ◌||◌, not, nat_lt, Bool, true, false, List, [], ◌∷◌, ◌++◌, length, All, IfSome, Option, Some, None, option_and_then, unwrap_or, is_none, Result, Ok, Err, codes, if◌then◌else◌, refl, append-nil, append_assoc, sym, ap, ◌∙◌, subst, fold, lit≤, arith}
 use Rattle.std.specs.Prelude.{⊤}
 use Rattle.std.specs.List.{list_any}
-use Rattle.std.specs.Str.{bytes_eq}
+use Rattle.std.specs.Ordering.{is_eq}
+use Rattle.std.proofs.lemmas.Bool.{false≢true}
+use Rattle.std.proofs.lemmas.Bool.Decides.{nat_tests}
 use Rattle.std.proofs.lemmas.List.Elements.{All-nil, All-cons, All-append}
 use Rattle.osgi_version.specs.VersionText.{DenotesVersion, IsVersion, version}
 use Rattle.osgi_version.specs.RangeText.{DenotesRange, IsRange}
@@ -16,30 +18,48 @@ use Rattle.unit_model.specs.declared.name.UnitName.{UnitName}
 use Rattle.unit_model.specs.declared.unit.Unit.{Unit}
 use Rattle.unit_model.specs.declared.update.Update.{Update}
 use Rattle.unit_model.specs.declared.provided.Provided.{Provided}
-use Rattle.inf_reader.specs.declared.class.Class.{Class}
-use Rattle.inf_reader.specs.declared.class.Class.TheVariants as class
+use Rattle.unit_model.specs.declared.required.Required.{Required}
+use Rattle.unit_model.specs.declared.phase.PhaseText.{PhaseText}
+use Rattle.inf_keys.specs.declared.fields.Single.TheVariants as single
+use Rattle.inf_keys.specs.declared.fields.PropertyField.TheVariants as property
+use Rattle.inf_keys.specs.declared.fields.ProvidedField.TheVariants as provided
+use Rattle.inf_keys.specs.declared.fields.RequiredField.TheVariants as required
+use Rattle.inf_keys.specs.declared.fields.ArtifactField.TheVariants as artifact
+use Rattle.inf_keys.specs.declared.fields.Phase.{Phase as KeyPhase}
+use Rattle.inf_keys.specs.declared.fields.Phase.TheVariants as key_phase
+use Rattle.inf_keys.specs.declared.fields.PhaseField.TheVariants as phase_field
+use Rattle.inf_keys.specs.declared.key.Part.TheVariants as part
+use Rattle.inf_keys.specs.declared.key.Key.{Key}
+use Rattle.inf_keys.specs.declared.reading.Reading.{Reading}
+use Rattle.inf_keys.specs.declared.reading.Reading.TheVariants as reading
+use Rattle.inf_keys.specs.Order.{key_cmp}
+use Rattle.inf_values.specs.declared.reading.Class.{Class}
+use Rattle.inf_values.specs.declared.reading.Class.TheVariants as class
+use Rattle.inf_values.specs.declared.reading.Value.{Value}
+use Rattle.inf_values.specs.declared.reading.Value.TheVariants as values
+use Rattle.inf_values.specs.Readings.{Readings, ReadsAll, Reads, value_of}
+use Rattle.inf_values.specs.Defaults.{any_version, below_version}
+use Rattle.inf_values.specs.Host.{is_empty, is_id, stands_alone, version_at, named, named_by, host_from, host_of}
+use Rattle.inf_values.specs.Replaced.{replaced}
+use Rattle.inf_values.specs.Values.{plain_in, id_in, version_in, range_in, filter_in, number_in}
+use Rattle.inf_values.proofs.IdLemmas.{is_id-sound}
+use Rattle.inf_values.proofs.NumberLemmas.{number_small}
+use Rattle.inf_values.proofs.RangeReadings.{range_formed}
+use Rattle.inf_values.proofs.ReadingLemmas.{readings, readings_all}
 use Rattle.inf_reader.specs.declared.entries.Entry.{Entry}
-use Rattle.inf_reader.specs.declared.meaning.Meaning.{Meaning}
-use Rattle.inf_reader.specs.declared.meaning.Place.{Place}
-use Rattle.inf_reader.specs.declared.value.Value.{Value}
-use Rattle.inf_reader.specs.declared.value.Value.TheVariants as values
+use Rattle.inf_values.specs.declared.keys.Place.{Place}
+use Rattle.inf_reader.specs.declared.unit_parts.Head.{Head}
+use Rattle.inf_reader.specs.declared.rows.Lists.{Lists}
 use Rattle.inf_reader.specs.declared.fault.InfRefusal.{InfRefusal}
 use Rattle.inf_reader.specs.declared.fault.InfRefusal.TheVariants.{UnknownKey, LeftOutKey, NoHost, MissingId, BadValue, Duplicate, TooManyRequirements, NoMemory}
-use Rattle.inf_reader.specs.InForm.{HasVersion, IsRequiredInForm, IsUnitInForm, IsRefusalInForm, InForm}
+use Rattle.inf_reader.specs.InForm.{IsNumber, HasVersion, IsTouchpointInForm, IsRequiredInForm, IsArtifactInForm, phase_place, ArePhasesFrom, IsUnitInForm, IsRefusalInForm, InForm}
 use Rattle.inf_reader.specs.Gives.{◌>>=◌, Gives}
-use Rattle.inf_reader.specs.Readings.{Readings, ReadsAll, Reads, value_of}
-use Rattle.inf_reader.specs.Host.{is_id, stands_alone, version_at, named, named_by, host_from, host_of}
-use Rattle.inf_reader.specs.Meaning.{meaning_of}
-use Rattle.inf_reader.specs.Replaced.{replaced}
-use Rattle.inf_reader.specs.KeyText.{single_key, row_key}
-use Rattle.inf_reader.specs.Entries.{Pair, taken_class, taken_meaning, taken, hosted, placed, entry_of, entries_of}
-use Rattle.inf_reader.specs.Parts.{At, has, plain_in, id_in, version_in, range_in, filter_in, number_in, in_form, in_form_or, in_form_if_there, needed_text, needed_id, needed_version, version_or, range_or, number_or, filter_if_there}
+use Rattle.inf_values.specs.Keys.{class_of, is_host, key_at, place_of}
+use Rattle.inf_reader.specs.Entries.{Pair, Meanings, taken_reading, taken, hosted, placed, entry_of, entries_of}
+use Rattle.inf_reader.specs.Parts.{At, has, text_at, in_form, in_form_or, in_form_if_there, needed_text, needed_id, needed_version, version_if_there, range_if_there, number_or, filter_if_there}
 use Rattle.inf_reader.specs.Placing.{value_with, value_at, places_of, owners_of, rows_in}
-use Rattle.inf_reader.specs.UnitParts.{traverse, below_version, any_version, listed_name, name_of, update_of, has_touchpoint, needed_touchpoint, touchpoint_of, property_row, provided_row, with_itself, is_of_units, provided_of, required_row, required_of, artifact_row}
+use Rattle.inf_reader.specs.UnitParts.{single_at, property_key, provided_key, required_key, artifact_key, traverse, listed_name, name_of, update_of, has_touchpoint, needed_touchpoint, touchpoint_of, property_row, provided_row, with_itself, is_of_units, provided_of, required_row, required_of, artifact_row, unit_phase, phase_of, phase_at, phases_of, head_of, lists_of}
 use Rattle.inf_reader.specs.UnitsOf.{unit_of, has_name, units_from, units_in, units_of}
-use Rattle.inf_reader.proofs.IdLemmas.{is_id-sound}
-use Rattle.inf_reader.proofs.RangeReadings.{range_formed}
-use Rattle.inf_reader.proofs.ReadingLemmas.{readings, readings_all}
 
 -- ---- steps
 
@@ -73,7 +93,7 @@ IsValueInForm (values.Range found) = IfSome found IsRange
 IsValueInForm (values.Filter found) = IfSome found IsFilter
 
 abbrev AreInForm : At → Type 0
-AreInForm at = (key : List ℕ) → IfSome (at key) IsValueInForm
+AreInForm at = (key : Key) → IfSome (at key) IsValueInForm
 
 version_denoted : (text : List ℕ) (found : Option Version) → Reads DenotesVersion text found → IfSome found IsVersion
 version_denoted text None h = tt
@@ -90,20 +110,18 @@ filter_denoted text (Some f) h = (text, h)
 module _ (read : Readings) (reads : ReadsAll read) where
   value_formed : (c : Class) (text : List ℕ) → IsValueInForm (value_of read c text)
   value_formed class.Plain text = tt
-  value_formed class.NoEffect text = tt
-  value_formed class.LeftOut text = tt
   value_formed class.Version text = version_denoted text (read.version text) (reads.version text)
   value_formed class.Range text = range_denoted text (read.range text) (reads.range text)
   value_formed class.Filter text = filter_denoted text (read.filter text) (reads.filter text)
 
-  with_formed : (key : List ℕ) (found : Option Value) (e : Entry) → IfSome found IsValueInForm → IfSome (value_with read key found e) IsValueInForm
-  with_formed key found e h = by (bytes_eq e.key key)
+  with_formed : (key : Key) (found : Option Value) (e : Entry) → IfSome found IsValueInForm → IfSome (value_with read key found e) IsValueInForm
+  with_formed key found e h = by (is_eq (key_cmp e.key key))
     where
-      by : (b : Bool) → IfSome (if b then Some (value_of read e.class e.text) else found) IsValueInForm
-      by true = value_formed e.class e.text
+      by : (b : Bool) → IfSome (if b then Some (value_of read (class_of e.key.part) e.text) else found) IsValueInForm
+      by true = value_formed (class_of e.key.part) e.text
       by false = h
 
-  fold_formed : (key : List ℕ) (entries : List Entry) (found : Option Value) → IfSome found IsValueInForm → IfSome (fold (value_with read key) found entries) IsValueInForm
+  fold_formed : (key : Key) (entries : List Entry) (found : Option Value) → IfSome found IsValueInForm → IfSome (fold (value_with read key) found entries) IsValueInForm
   fold_formed key [] found h = h
   fold_formed key (e ∷ entries) found h = fold_formed key entries (value_with read key found e) (with_formed key found e h)
 
@@ -147,19 +165,24 @@ host_formed read reads before (b ∷ rest) =
 
 -- ---- parts
 
-formed : {X : Type 0} (P : X → Type 0) (key : List ℕ) (found : Option X) → IfSome found P → IfRead P (in_form key found)
+formed : {X : Type 0} (P : X → Type 0) (key : Key) (found : Option X) → IfSome found P → IfRead P (in_form key found)
 formed P key None h = tt
 formed P key (Some x) h = h
 
-formed_or : {X : Type 0} (P : X → Type 0) (form : Value → Option X) (key : List ℕ) (default : X) (found : Option Value)
+formed_or : {X : Type 0} (P : X → Type 0) (form : Value → Option X) (key : Key) (default : X) (found : Option Value)
     → IfSome found (λ value. IfSome (form value) P) → P default → IfRead P (in_form_or form key default found)
 formed_or P form key default None h d = d
 formed_or P form key default (Some value) h d = formed P key (form value) h
 
-formed_if_there : {X : Type 0} (P : X → Type 0) (form : Value → Option X) (key : List ℕ) (found : Option Value)
+formed_if_there : {X : Type 0} (P : X → Type 0) (form : Value → Option X) (key : Key) (found : Option Value)
     → IfSome found (λ value. IfSome (form value) P) → IfRead (λ x. IfSome x P) (in_form_if_there form key found)
 formed_if_there P form key None h = tt
 formed_if_there P form key (Some value) h = bind P (λ x. IfSome x P) (in_form key (form value)) _ (formed P key (form value) h) (λ x p. p)
+
+-- what is there, or else a default
+or_formed : {X : Type 0} (P : X → Type 0) (found : Option X) (default : X) → IfSome found P → P default → P (unwrap_or found default)
+or_formed P None default h d = d
+or_formed P (Some x) default h d = h
 
 any_some : {X : Type 0} (found : Option X) → IfSome found Any
 any_some None = tt
@@ -212,82 +235,110 @@ below_is_range v h = record { floor = zero_is_version; ceiling = h }
 any_is_range : IsRange any_version
 any_is_range = record { floor = zero_is_version; ceiling = refl }
 
+number_some : (value : Value) → IfSome (number_in value) IsNumber
+number_some (values.Plain text) = number_small 2147483647 text
+number_some (values.Version found) = tt
+number_some (values.Range found) = tt
+number_some (values.Filter found) = tt
+
+phases_later : (least more : ℕ) (phases : List PhaseText) → least ≤ more → ArePhasesFrom more phases → ArePhasesFrom least phases
+phases_later least more [] h ps = tt
+phases_later least more (p ∷ phases) h ps = let first = ps.0 in (omega (arith, h, first), ps.1, ps.2)
+
+both_empty : (text imports : List ℕ) → (is_empty text && is_empty imports) ≡ false → text ≡ [] → imports ≡ [] → ⊥
+both_empty text imports e t i = false≢true (sym e ∙ ap (λ x. is_empty x && is_empty imports) t ∙ ap is_empty i)
+
+-- one phase in front of later ones
+phase_first : (least : ℕ) (p : KeyPhase) (text imports : List ℕ) (later : List PhaseText) → least ≤ phase_place (unit_phase p)
+    → ArePhasesFrom (phase_place (unit_phase p) + 1) later → ArePhasesFrom least (phase_of (unit_phase p) text imports ++ later)
+phase_first least p text imports later h ps = by (is_empty text && is_empty imports) refl
+  where
+    by : (b : Bool) → (is_empty text && is_empty imports) ≡ b
+        → ArePhasesFrom least ((if b then [] else record { phase = unit_phase p; imports = imports; text = text } ∷ []) ++ later)
+    by true e = phases_later least (phase_place (unit_phase p) + 1) later (omega (arith, h)) ps
+    by false e = (h, both_empty text imports e, ps)
+
+regroup : (a b c d e : List PhaseText) → (((a ++ b) ++ c) ++ d) ++ e ≡ a ++ (b ++ (c ++ (d ++ e)))
+regroup a b c d e = simp append_assoc
+
 module _ (at : At) (owner : ℕ) (formed_at : AreInForm at) where
-  text_read : (key : List ℕ) → IfRead Any (needed_text at key)
+  text_read : (key : Key) → IfRead Any (needed_text at key)
   unfolding needed_text
   text_read key = formed Any key _ (any_some _)
 
-  id_read : (key : List ℕ) → IfRead IsUnitId (needed_id at key)
+  id_read : (key : Key) → IfRead IsUnitId (needed_id at key)
   unfolding needed_id
   id_read key = formed IsUnitId key _ (id_found (at key))
 
-  version_read : (key : List ℕ) → IfRead IsVersion (needed_version at key)
+  version_read : (key : Key) → IfRead IsVersion (needed_version at key)
   unfolding needed_version
   version_read key = formed IsVersion key _ (version_found (at key) (formed_at key))
 
-  version_or_read : (key : List ℕ) (default : Version) → IsVersion default → IfRead IsVersion (version_or at key default)
-  unfolding version_or
-  version_or_read key default d = formed_or IsVersion version_in key default (at key) (some_weaker IsValueInForm (λ value. IfSome (version_in value) IsVersion) (at key) version_some (formed_at key)) d
+  abbrev MayBe : {X : Type 0} → (X → Type 0) → Option X → Type 0
+  MayBe P found = IfSome found P
 
-  range_or_read : (key : List ℕ) (default : Range) → IsRange default → IfRead IsRange (range_or at key default)
-  unfolding range_or
-  range_or_read key default d = formed_or IsRange range_in key default (at key) (some_weaker IsValueInForm (λ value. IfSome (range_in value) IsRange) (at key) range_some (formed_at key)) d
+  version_there : (key : Key) → IfRead (MayBe IsVersion) (version_if_there at key)
+  unfolding version_if_there
+  version_there key = formed_if_there IsVersion version_in key (at key) (some_weaker IsValueInForm (λ value. IfSome (version_in value) IsVersion) (at key) version_some (formed_at key))
 
-  number_or_read : (key : List ℕ) (default : ℕ) → IfRead Any (number_or at key default)
-  unfolding number_or
-  number_or_read key default = formed_or Any number_in key default (at key) (some_weaker IsValueInForm (λ value. IfSome (number_in value) Any) (at key) (λ value h. any_some (number_in value)) (formed_at key)) tt
+  range_there : (key : Key) → IfRead (MayBe IsRange) (range_if_there at key)
+  unfolding range_if_there
+  range_there key = formed_if_there IsRange range_in key (at key) (some_weaker IsValueInForm (λ value. IfSome (range_in value) IsRange) (at key) range_some (formed_at key))
 
-  abbrev HasText : Option Filter → Type 0
-  HasText filter = IfSome filter IsFilter
-
-  filter_at_read : (key : List ℕ) → IfRead HasText (filter_if_there at key)
+  filter_there : (key : Key) → IfRead (MayBe IsFilter) (filter_if_there at key)
   unfolding filter_if_there
-  filter_at_read key = formed_if_there IsFilter filter_in key (at key) (some_weaker IsValueInForm (λ value. IfSome (filter_in value) IsFilter) (at key) filter_some (formed_at key))
+  filter_there key = formed_if_there IsFilter filter_in key (at key) (some_weaker IsValueInForm (λ value. IfSome (filter_in value) IsFilter) (at key) filter_some (formed_at key))
+
+  number_read : (key : Key) (default : ℕ) → IsNumber default → IfRead IsNumber (number_or at key default)
+  unfolding number_or
+  number_read key default d = formed_or IsNumber number_in key default (at key) (some_weaker IsValueInForm (λ value. IfSome (number_in value) IsNumber) (at key) (λ value h. number_some value) (formed_at key)) d
 
   listed_formed : IfRead IsNameInForm (listed_name at owner)
   unfolding listed_name
   listed_formed =
-      either IsNameInForm (not (has at (single_key owner (codes "id"))) || not (has at (single_key owner (codes "version")))) (Err (MissingId (owner - 1)))
-      (needed_id at (single_key owner (codes "id")) >>= λ id. needed_version at (single_key owner (codes "version")) >>= λ v. Ok (record { id = id; version = v })) tt
-      (bind IsUnitId IsNameInForm (needed_id at (single_key owner (codes "id"))) _ (id_read _) (λ id is_id.
-      bind IsVersion IsNameInForm (needed_version at (single_key owner (codes "version"))) _ (version_read _) (λ v is_version.
+      either IsNameInForm (not (has at (single_at owner single.Id)) || not (has at (single_at owner single.Version))) (Err (MissingId (owner - 1)))
+      (needed_id at (single_at owner single.Id) >>= λ id. needed_version at (single_at owner single.Version) >>= λ v. Ok (record { id = id; version = v })) tt
+      (bind IsUnitId IsNameInForm (needed_id at (single_at owner single.Id)) _ (id_read _) (λ id is_id.
+      bind IsVersion IsNameInForm (needed_version at (single_at owner single.Version)) _ (version_read _) (λ v is_version.
       record { id = is_id; version = is_version })))
 
   name_formed : (host : Option UnitName) → IsHostInForm host → IfRead IsNameInForm (name_of host at owner)
   name_formed None h = listed_formed
   name_formed (Some host) h = either IsNameInForm (owner == 0) (Ok host) (listed_name at owner) h listed_formed
 
-  abbrev HasRange : Update → Type 0
-  HasRange update = IsRange update.range
+  abbrev IsUpdateInForm : Update → Type 0
+  IsUpdateInForm update = IsRange update.range × IsNumber update.severity
 
-  update_formed : (name : UnitName) → IsNameInForm name → IfRead HasRange (update_of at owner name)
+  update_formed : (name : UnitName) → IsNameInForm name → IfRead IsUpdateInForm (update_of at owner name)
   unfolding update_of
   update_formed name h =
-      bind IsRange HasRange (range_or at (single_key owner (codes "update.range")) (below_version name.version)) _ (range_or_read _ _ (below_is_range name.version h.version)) (λ range is_range.
-      bind Any HasRange (number_or at (single_key owner (codes "update.severity")) 0) _ (number_or_read _ 0) (λ severity any. is_range))
+      bind (MayBe IsRange) IsUpdateInForm (range_if_there at (single_at owner single.UpdateRange)) _ (range_there _) (λ range is_range.
+      bind IsNumber IsUpdateInForm (number_or at (single_at owner single.UpdateSeverity) 0) _ (number_read _ 0 (lit≤ tt)) (λ severity small.
+      (or_formed IsRange range (below_version name.version) is_range (below_is_range name.version h.version), small)))
 
-  touchpoint_read : IfRead Any (touchpoint_of at owner)
+  touchpoint_read : IfRead (MayBe IsTouchpointInForm) (touchpoint_of at owner)
   unfolding touchpoint_of needed_touchpoint
   touchpoint_read =
-      either Any (has_touchpoint at owner) _ _
-      (bind Any Any (needed_touchpoint at owner) _
-      (bind Any Any (needed_text at (single_key owner (codes "touchpoint.id"))) _ (text_read _) (λ id any.
-      bind IsVersion Any (needed_version at (single_key owner (codes "touchpoint.version"))) _ (version_read _) (λ v is. tt)))
-      (λ touchpoint any. tt))
+      either (MayBe IsTouchpointInForm) (has_touchpoint at owner) _ _
+      (bind IsTouchpointInForm (MayBe IsTouchpointInForm) (needed_touchpoint at owner) _
+      (bind Any IsTouchpointInForm (needed_text at (single_at owner single.TouchpointId)) _ (text_read _) (λ id any.
+      bind IsVersion IsTouchpointInForm (needed_version at (single_at owner single.TouchpointVersion)) _ (version_read _) (λ v is. is)))
+      (λ touchpoint is. is))
       tt
 
   property_read : (row : ℕ) → IfRead Any (property_row at owner row)
   unfolding property_row
   property_read row =
-      bind Any Any (needed_text at (row_key owner (codes "properties") row (codes "name"))) _ (text_read _) (λ name any.
-      bind Any Any (needed_text at (row_key owner (codes "properties") row (codes "value"))) _ (text_read _) (λ value any. tt))
+      bind Any Any (needed_text at (property_key owner row property.Name)) _ (text_read _) (λ name any.
+      bind Any Any (needed_text at (property_key owner row property.Value)) _ (text_read _) (λ value any. tt))
 
   provided_read : (v : Version) → IsVersion v → (row : ℕ) → IfRead HasVersion (provided_row at owner v row)
   unfolding provided_row
   provided_read v h row =
-      bind Any HasVersion (needed_text at (row_key owner (codes "provides") row (codes "namespace"))) _ (text_read _) (λ namespace any.
-      bind Any HasVersion (needed_text at (row_key owner (codes "provides") row (codes "name"))) _ (text_read _) (λ name any.
-      bind IsVersion HasVersion (version_or at (row_key owner (codes "provides") row (codes "version")) v) _ (version_or_read _ v h) (λ version is. is)))
+      bind Any HasVersion (needed_text at (provided_key owner row provided.Namespace)) _ (text_read _) (λ namespace any.
+      bind Any HasVersion (needed_text at (provided_key owner row provided.Name)) _ (text_read _) (λ name any.
+      bind (MayBe IsVersion) HasVersion (version_if_there at (provided_key owner row provided.Version)) _ (version_there _) (λ version is.
+      or_formed IsVersion version v is h)))
 
   with_itself_formed : (name : UnitName) (provided : List Provided) → IsVersion name.version → All HasVersion provided → All HasVersion (with_itself name provided)
   with_itself_formed name provided h ps = by (list_any is_of_units provided)
@@ -302,47 +353,134 @@ module _ (at : At) (owner : ℕ) (formed_at : AreInForm at) where
       bind (All HasVersion) (All HasVersion) (traverse (provided_row at owner name.version) rows) _ (each HasVersion _ rows (provided_read name.version h)) (λ provided ps.
       with_itself_formed name provided h ps)
 
+  at_least : (optional : Bool) (min : ℕ) → IsNumber min → IsNumber (if optional then 0 else min)
+  at_least true min h = lit≤ tt
+  at_least false min h = h
+
   required_read : (row : ℕ) → IfRead IsRequiredInForm (required_row at owner row)
   unfolding required_row
   required_read row =
-      bind Any IsRequiredInForm (needed_text at (row_key owner (codes "requires") row (codes "namespace"))) _ (text_read _) (λ namespace any.
-      bind Any IsRequiredInForm (needed_text at (row_key owner (codes "requires") row (codes "name"))) _ (text_read _) (λ name any.
-      bind IsRange IsRequiredInForm (range_or at (row_key owner (codes "requires") row (codes "range")) any_version) _ (range_or_read _ _ any_is_range) (λ range is_range.
-      bind HasText IsRequiredInForm (filter_if_there at (row_key owner (codes "requires") row (codes "filter"))) _ (filter_at_read _) (λ filter has_text.
-      bind Any IsRequiredInForm (number_or at (row_key owner (codes "requires") row (codes "min")) 1) _ (number_or_read _ 1) (λ min any.
-      bind Any IsRequiredInForm (number_or at (row_key owner (codes "requires") row (codes "max")) 2147483647) _ (number_or_read _ 2147483647) (λ max any.
-      record { range = is_range; filter = has_text }))))))
+      bind Any IsRequiredInForm (needed_text at (required_key owner row required.Namespace)) _ (text_read _) (λ namespace any.
+      bind Any IsRequiredInForm (needed_text at (required_key owner row required.Name)) _ (text_read _) (λ name any.
+      bind (MayBe IsRange) IsRequiredInForm (range_if_there at (required_key owner row required.Range)) _ (range_there _) (λ range is_range.
+      bind (MayBe IsFilter) IsRequiredInForm (filter_if_there at (required_key owner row required.Filter)) _ (filter_there _) (λ filter has_text.
+      bind IsNumber IsRequiredInForm (number_or at (required_key owner row required.Min) 1) _ (number_read _ 1 (lit≤ tt)) (λ min min_small.
+      bind IsNumber IsRequiredInForm (number_or at (required_key owner row required.Max) 2147483647) _ (number_read _ 2147483647 (lit≤ tt)) (λ max max_small.
+      record { range = or_formed IsRange range any_version is_range any_is_range; filter = has_text; min = at_least _ min min_small; max = max_small }))))))
 
   all_any : {X : Type 0} (f : ℕ → Result X InfRefusal) (rows : List ℕ) → ((row : ℕ) → IfRead Any (f row)) → IfRead Any (traverse f rows)
   unfolding traverse
   all_any f [] h = tt
   all_any f (row ∷ rows) h = bind Any Any (f row) _ (h row) (λ x any. bind Any Any (traverse f rows) _ (all_any f rows h) (λ xs any. tt))
 
-  required_formed : (name : UnitName) (rows : List ℕ) → IfRead (All IsRequiredInForm) (required_of at owner name rows)
-  unfolding required_of
-  required_formed name rows =
-      either (All IsRequiredInForm) (nat_lt 1024 (length rows)) (Err (TooManyRequirements name)) (traverse (required_row at owner) rows) tt
-      (each IsRequiredInForm (required_row at owner) rows required_read)
+  as_long : {X : Type 0} (f : ℕ → Result X InfRefusal) (rows : List ℕ) → ((row : ℕ) → IfRead Any (f row)) → IfRead (λ xs. length xs ≡ length rows) (traverse f rows)
+  unfolding traverse
+  as_long f [] h = refl
+  as_long f (row ∷ rows) h =
+      bind Any (λ xs. length xs ≡ length (row ∷ rows)) (f row) _ (h row) (λ x any.
+      bind (λ xs. length xs ≡ length rows) (λ xs. length xs ≡ length (row ∷ rows)) (traverse f rows) _ (as_long f rows h) (λ xs same. omega (arith, same)))
 
-  artifact_read : (row : ℕ) → IfRead Any (artifact_row at owner row)
+  both : {X : Type 0} (P Q : X → Type 0) (m : Result X InfRefusal) → IfRead P m → IfRead Q m → IfRead (λ x. P x × Q x) m
+  both P Q (Ok x) p q = (p, q)
+  both P Q (Err refusal) p q = p
+
+  weaker : {X : Type 0} (P Q : X → Type 0) (m : Result X InfRefusal) → ((x : X) → P x → Q x) → IfRead P m → IfRead Q m
+  weaker P Q (Ok x) f p = f x p
+  weaker P Q (Err refusal) f p = p
+
+  abbrev AreRequiredInForm : List Required → Type 0
+  AreRequiredInForm required = All IsRequiredInForm required × (length required ≤ 1024)
+
+  required_formed : (name : UnitName) (rows : List ℕ) → IfRead AreRequiredInForm (required_of at owner name rows)
+  unfolding required_of
+  required_formed name rows = by (nat_lt 1024 (length rows)) refl
+    where
+      by : (b : Bool) → nat_lt 1024 (length rows) ≡ b → IfRead AreRequiredInForm (if b then Err (TooManyRequirements name) else traverse (required_row at owner) rows)
+      by true e = tt
+      by false e =
+          let few : length rows ≤ 1024 = grind (arith, nat_tests) in
+          both (All IsRequiredInForm) (λ xs. length xs ≤ 1024) (traverse (required_row at owner) rows) (each IsRequiredInForm (required_row at owner) rows required_read)
+          (weaker (λ xs. length xs ≡ length rows) (λ xs. length xs ≤ 1024) (traverse (required_row at owner) rows) (λ xs same. omega (arith, same, few))
+          (as_long (required_row at owner) rows (λ row. weaker IsRequiredInForm Any (required_row at owner row) (λ x is. tt) (required_read row))))
+
+  artifact_read : (row : ℕ) → IfRead IsArtifactInForm (artifact_row at owner row)
   unfolding artifact_row
   artifact_read row =
-      bind IsUnitId Any (needed_id at (row_key owner (codes "artifacts") row (codes "classifier"))) _ (id_read _) (λ classifier is.
-      bind IsUnitId Any (needed_id at (row_key owner (codes "artifacts") row (codes "id"))) _ (id_read _) (λ id is.
-      bind IsVersion Any (needed_version at (row_key owner (codes "artifacts") row (codes "version"))) _ (version_read _) (λ v is. tt)))
+      bind IsUnitId IsArtifactInForm (needed_id at (artifact_key owner row artifact.Classifier)) _ (id_read _) (λ classifier is_classifier.
+      bind IsUnitId IsArtifactInForm (needed_id at (artifact_key owner row artifact.Id)) _ (id_read _) (λ id is_id.
+      bind IsVersion IsArtifactInForm (needed_version at (artifact_key owner row artifact.Version)) _ (version_read _) (λ v is_version.
+      record { classifier = is_classifier; id = is_id; version = is_version })))
+
+  one_more : (least : ℕ) (p : KeyPhase) (later : List PhaseText) → least ≤ phase_place (unit_phase p)
+      → ArePhasesFrom (phase_place (unit_phase p) + 1) later → ArePhasesFrom least (phase_at at owner p ++ later)
+  unfolding phase_at
+  one_more least p later h ps =
+      phase_first least p (unwrap_or (text_at at (key_at owner (part.Instruction p phase_field.Text))) [])
+      (unwrap_or (text_at at (key_at owner (part.Instruction p phase_field.Import))) []) later h ps
+
+  last_one : (least : ℕ) (p : KeyPhase) → least ≤ phase_place (unit_phase p) → ArePhasesFrom least (phase_at at owner p)
+  last_one least p h = subst (ArePhasesFrom least) (append-nil (phase_at at owner p)) (one_more least p [] h tt)
+
+  phases_formed : ArePhasesFrom 0 (phases_of at owner)
+  unfolding phases_of
+  phases_formed =
+      let configure = phase_at at owner key_phase.Configure in
+      let install = phase_at at owner key_phase.Install ++ configure in
+      let uninstall = phase_at at owner key_phase.Uninstall ++ install in
+      let unconfigure = phase_at at owner key_phase.Unconfigure ++ uninstall in
+      let grouped = regroup (phase_at at owner key_phase.Collect) (phase_at at owner key_phase.Unconfigure) (phase_at at owner key_phase.Uninstall) (phase_at at owner key_phase.Install) configure in
+      subst (ArePhasesFrom 0) (sym grouped)
+      (one_more 0 key_phase.Collect unconfigure (lit≤ tt)
+      (one_more 1 key_phase.Unconfigure uninstall (lit≤ tt)
+      (one_more 2 key_phase.Uninstall install (lit≤ tt)
+      (one_more 3 key_phase.Install configure (lit≤ tt) (last_one 4 key_phase.Configure (lit≤ tt))))))
+
+  pub record IsHeadInForm (head : Head) : Type 0 where
+    pub filter : IfSome head.filter IsFilter
+    pub update : IsUpdateInForm head.update
+    pub touchpoint : IfSome head.touchpoint IsTouchpointInForm
+
+  head_formed : (name : UnitName) → IsNameInForm name → IfRead IsHeadInForm (head_of at owner name)
+  unfolding head_of
+  head_formed name h =
+      bind (MayBe IsFilter) IsHeadInForm (filter_if_there at (single_at owner single.Filter)) _ (filter_there _) (λ filter has_text.
+      bind IsUpdateInForm IsHeadInForm (update_of at owner name) _ (update_formed name h) (λ update is_update.
+      bind (MayBe IsTouchpointInForm) IsHeadInForm (touchpoint_of at owner) _ touchpoint_read (λ touchpoint is_touchpoint.
+      record { filter = has_text; update = is_update; touchpoint = is_touchpoint })))
+
+  pub record AreListsInForm (lists : Lists) : Type 0 where
+    pub provided : All HasVersion lists.provided
+    pub required : AreRequiredInForm lists.required
+    pub artifacts : All IsArtifactInForm lists.artifacts
+
+  lists_formed : (places : List Place) (name : UnitName) → IsNameInForm name → IfRead AreListsInForm (lists_of at places owner name)
+  unfolding lists_of
+  lists_formed places name h =
+      bind Any AreListsInForm (traverse (property_row at owner) (rows_in places owner 1)) _ (all_any (property_row at owner) (rows_in places owner 1) property_read) (λ properties any.
+      bind (All HasVersion) AreListsInForm (provided_of at owner name (rows_in places owner 2)) _ (provided_formed name h.version (rows_in places owner 2)) (λ provided have.
+      bind AreRequiredInForm AreListsInForm (required_of at owner name (rows_in places owner 3)) _ (required_formed name (rows_in places owner 3)) (λ required are.
+      bind (All IsArtifactInForm) AreListsInForm (traverse (artifact_row at owner) (rows_in places owner 4)) _ (each IsArtifactInForm (artifact_row at owner) (rows_in places owner 4) artifact_read) (λ artifacts are_artifacts.
+      record { provided = have; required = are; artifacts = are_artifacts }))))
 
   unit_formed : (host : Option UnitName) (places : List Place) → IsHostInForm host → IfRead IsUnitInForm (unit_of host at places owner)
   unfolding unit_of
   unit_formed host places h =
       bind IsNameInForm IsUnitInForm (name_of host at owner) _ (name_formed host h) (λ name is_name.
-      bind HasText IsUnitInForm (filter_if_there at (single_key owner (codes "filter"))) _ (filter_at_read _) (λ filter has_text.
-      bind HasRange IsUnitInForm (update_of at owner name) _ (update_formed name is_name) (λ update has_range.
-      bind Any IsUnitInForm (touchpoint_of at owner) _ touchpoint_read (λ touchpoint any.
-      bind Any IsUnitInForm (traverse (property_row at owner) (rows_in places owner 1)) _ (all_any (property_row at owner) (rows_in places owner 1) property_read) (λ properties any.
-      bind (All HasVersion) IsUnitInForm (provided_of at owner name (rows_in places owner 2)) _ (provided_formed name is_name.version (rows_in places owner 2)) (λ provided have.
-      bind (All IsRequiredInForm) IsUnitInForm (required_of at owner name (rows_in places owner 3)) _ (required_formed name (rows_in places owner 3)) (λ required are_in_form.
-      bind Any IsUnitInForm (traverse (artifact_row at owner) (rows_in places owner 4)) _ (all_any (artifact_row at owner) (rows_in places owner 4) artifact_read) (λ artifacts any.
-      record { id = is_name.id; version = is_name.version; filter = has_text; range = has_range; provided = have; required = are_in_form }))))))))
+      bind IsHeadInForm IsUnitInForm (head_of at owner name) _ (head_formed name is_name) (λ head is_head.
+      bind AreListsInForm IsUnitInForm (lists_of at places owner name) _ (lists_formed places name is_name) (λ lists are_lists.
+      record {
+        id = is_name.id;
+        version = is_name.version;
+        filter = is_head.filter;
+        range = is_head.update.0;
+        severity = is_head.update.1;
+        touchpoint = is_head.touchpoint;
+        provided = are_lists.provided;
+        required = are_lists.required.0;
+        few = are_lists.required.1;
+        artifacts = are_lists.artifacts;
+        phases = phases_formed;
+      })))
 
 -- ---- units
 
@@ -355,38 +493,32 @@ units_formed host at places (owner ∷ owners) units f h us =
     either (All IsUnitInForm) (has_name units unit.name) (Err (Duplicate unit.name)) (units_from host at places (units ++ unit ∷ []) owners) is.version
     (units_formed host at places owners (units ++ unit ∷ []) f h (All-append IsUnitInForm units (unit ∷ []) us (All-cons IsUnitInForm unit [] is (All-nil _)))))
 
-class_read : (key : List ℕ) (meaning : Meaning) (c : Class) → IfRead Any (taken_class key meaning c)
-class_read key meaning class.LeftOut = tt
-class_read key meaning class.NoEffect = tt
-class_read key meaning class.Plain = tt
-class_read key meaning class.Version = tt
-class_read key meaning class.Range = tt
-class_read key meaning class.Filter = tt
-
-meaning_read : (key : List ℕ) (meaning : Option Meaning) → IfRead Any (taken_meaning key meaning)
-meaning_read key None = tt
-meaning_read key (Some meaning) = class_read key meaning meaning.class
+reading_read : (key : List ℕ) (found : Reading Key) → IfRead Any (taken_reading key found)
+reading_read key (reading.Meaning named) = tt
+reading_read key reading.Silent = tt
+reading_read key reading.LeftOut = tt
+reading_read key reading.Unknown = tt
 
 hosted_read : {X : Type 0} (key : List ℕ) (found : Option X) → IfRead Any (hosted key found)
 hosted_read key None = tt
 hosted_read key (Some x) = tt
 
-placed_read : (host : Option UnitName) (key text : List ℕ) (meaning : Option Meaning) → IfRead Any (placed host key text meaning)
+placed_read : (host : Option UnitName) (key text : List ℕ) (named : Option Key) → IfRead Any (placed host key text named)
 placed_read host key text None = tt
-placed_read host key text (Some meaning) =
-    either Any ((meaning.place.owner == 0) && is_none host) (Err (NoHost key)) (Ok (Some (record { place = meaning.place; class = meaning.class; key = key; text = text }))) tt tt
+placed_read host key text (Some named) =
+    either Any (is_host named.owner && is_none host) (Err (NoHost key)) (Ok (Some (record { key = named; place = place_of named; text = text }))) tt tt
 
-entry_read : (host : Option UnitName) (pair : Pair) → IfRead Any (entry_of host pair)
+entry_read : (means : Meanings) (host : Option UnitName) (pair : Pair) → IfRead Any (entry_of means host pair)
 unfolding entry_of taken
-entry_read host pair =
-    bind Any Any (taken pair.0) _ (meaning_read pair.0 (meaning_of pair.0)) (λ meaning any.
-    bind Any Any (hosted pair.0 (replaced host pair.1)) _ (hosted_read pair.0 (replaced host pair.1)) (λ text any. placed_read host pair.0 text meaning))
+entry_read means host pair =
+    bind Any Any (taken means pair.0) _ (reading_read pair.0 (means pair.0)) (λ named any.
+    bind Any Any (hosted pair.0 (replaced host pair.1)) _ (hosted_read pair.0 (replaced host pair.1)) (λ text any. placed_read host pair.0 text named))
 
-entries_read : (host : Option UnitName) (pairs : List Pair) → IfRead Any (entries_of host pairs)
+entries_read : (means : Meanings) (host : Option UnitName) (pairs : List Pair) → IfRead Any (entries_of means host pairs)
 unfolding entries_of
-entries_read host [] = tt
-entries_read host (pair ∷ pairs) =
-    bind Any Any (entry_of host pair) _ (entry_read host pair) (λ entry any. bind Any Any (entries_of host pairs) _ (entries_read host pairs) (λ entries any. tt))
+entries_read means host [] = tt
+entries_read means host (pair ∷ pairs) =
+    bind Any Any (entry_of means host pair) _ (entry_read means host pair) (λ entry any. bind Any Any (entries_of means host pairs) _ (entries_read means host pairs) (λ entries any. tt))
 
 -- What a p2.inf describes is in form.
 pub units_of-in_form : (read : Readings) → ReadsAll read → (folder : List ℕ) (pairs : List Pair) → InForm (units_of read folder pairs)
@@ -394,7 +526,7 @@ unfolding units_of
 units_of-in_form read reads folder pairs =
     let host = host_of read folder in
     as_in_form (units_in read host pairs)
-    (bind Any (All IsUnitInForm) (entries_of host pairs) _ (entries_read host pairs) (λ entries any.
+    (bind Any (All IsUnitInForm) (entries_of read.key host pairs) _ (entries_read read.key host pairs) (λ entries any.
     units_formed host (value_at read entries) (places_of entries) (owners_of entries) [] (at_formed read reads entries) (host_formed read reads [] folder) (All-nil _)))
   where
     as_in_form : (m : Result (List Unit) InfRefusal) → IfRead (All IsUnitInForm) m → InForm m

@@ -1,15 +1,8 @@
 pub mod EntryLemmas
-pub mod FilterReadings
 pub mod FormLemmas
-pub mod HostLemmas
-pub mod IdLemmas
 pub mod NameLemmas
 pub mod PlaceLemmas
-pub mod RangeReadings
 pub mod ReadingLemmas
-pub mod ReplacedLemmas
 pub mod RowLemmas
 pub mod Steps
-pub mod TruthLemmas
 pub mod UnitLemmas
-pub mod VersionReadings

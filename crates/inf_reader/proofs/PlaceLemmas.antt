@@ -1,48 +1,18 @@
 -- Facts on places.
-use Rattle.std.proofs.Common.{◌≡◌, ◌⊎◌, ℕ, ◌+◌, ◌<◌, ◌==◌, ◌&&◌, nat_lt, Bool, true, false, not, List, map, filter, inl, inr, refl, sym, ap, ◌∙◌, arith}
+use Rattle.std.proofs.Common.{◌≡◌, ◌⊎◌, ℕ, ◌+◌, ◌<◌, ◌==◌, ◌&&◌, Bool, true, false, not, List, map, filter, inl, inr, refl, ap, arith}
 use Rattle.std.proofs.lemmas.Bool.Decides.{nat_tests}
-use Rattle.std.specs.Ordering.{nat_cmp, is_le, is_eq}
-use Rattle.std.specs.Cmp.{nat_cmp_is}
-use Rattle.std.specs.declared.cmp.Ordering.TheVariants.{Less, Equal, Greater}
+use Rattle.std.specs.Ordering.{nat_cmp, is_le}
+use Rattle.std.specs.declared.cmp.Ordering.TheVariants.{Less}
 use Rattle.std.specs.declared.ops.Bound.TheVariants.{Included, Excluded}
 use Rattle.std.specs.BTreeMap.Range.{range_contains}
-use Rattle.inf_reader.specs.declared.meaning.Place.{Place}
+use Rattle.inf_values.proofs.NumberOrder.{less, equal, greater, ordered}
+use Rattle.inf_values.specs.declared.keys.Place.{Place}
 use Rattle.inf_reader.specs.Placing.{place_cmp, stands_in, rows_in}
-
-less : (x y : ℕ) → x < y → nat_cmp x y ≡ Less
-less x y h = sym (nat_cmp_is x y Less h)
-
-equal : (x y : ℕ) → x ≡ y → nat_cmp x y ≡ Equal
-equal x y h = sym (nat_cmp_is x y Equal h)
-
-greater : (x y : ℕ) → y < x → nat_cmp x y ≡ Greater
-greater x y h = sym (nat_cmp_is x y Greater h)
-
-ordered : (x y : ℕ) → (x < y) ⊎ ((x ≡ y) ⊎ (y < x))
-ordered x y = by (nat_lt x y) refl
-  where
-    later : (t : Bool) → nat_lt x y ≡ false → nat_lt y x ≡ t → (x < y) ⊎ ((x ≡ y) ⊎ (y < x))
-    later true e f = inr (inr (grind (arith, nat_tests)))
-    later false e f = inr (inl (grind (arith, nat_tests)))
-
-    by : (t : Bool) → nat_lt x y ≡ t → (x < y) ⊎ ((x ≡ y) ⊎ (y < x))
-    by true e = inl (grind (arith, nat_tests))
-    by false e = later (nat_lt y x) e refl
 
 from_zero : (n : ℕ) → is_le (nat_cmp 0 n) ≡ true
 from_zero n = elim (ordered 0 n) [
   | inl h ↦ ap is_le (less 0 n h)
   | inr r ↦ elim r [ inl h ↦ ap is_le (equal 0 n h) | inr h ↦ absurd (omega arith) ]
-]
-
--- Numbers are tied exactly where they are one.
-pub tied_numbers : (x y : ℕ) → is_eq (nat_cmp x y) ≡ (x == y)
-tied_numbers x y = elim (ordered x y) [
-  | inl h ↦ let other : (x == y) ≡ false = grind (arith, nat_tests) in ap is_eq (less x y h) ∙ sym other
-  | inr r ↦ elim r [
-    | inl h ↦ let same : (x == y) ≡ true = grind (arith, nat_tests) in ap is_eq (equal x y h) ∙ sym same
-    | inr h ↦ let other : (x == y) ≡ false = grind (arith, nat_tests) in ap is_eq (greater x y h) ∙ sym other
-  ]
 ]
 
 abbrev place : ℕ → ℕ → ℕ → Place

@@ -3,16 +3,16 @@ use Rattle.std.proofs.Common.{◌≡◌, ℕ, ◌+◌, ◌<◌, ◌≤◌, true,
 use Rattle.std.proofs.lemmas.List.{drop_more, drop_all}
 use Rattle.unit_model.specs.declared.name.UnitName.{UnitName}
 use Rattle.unit_model.specs.declared.unit.Unit.{Unit}
-use Rattle.inf_reader.specs.declared.meaning.Place.{Place}
+use Rattle.inf_values.specs.declared.keys.Place.{Place}
 use Rattle.inf_reader.specs.declared.fault.InfRefusal.{InfRefusal}
 use Rattle.inf_reader.specs.declared.fault.InfRefusal.TheVariants.{Duplicate}
 use Rattle.inf_reader.specs.Gives.{◌>>=◌}
 use Rattle.inf_reader.specs.Parts.{At}
 use Rattle.inf_reader.specs.declared.entries.Entry.{Entry}
-use Rattle.inf_reader.specs.Entries.{Pair, entries_of}
-use Rattle.inf_reader.specs.Host.{host_of}
+use Rattle.inf_reader.specs.Entries.{Pair, Meanings, entries_of}
+use Rattle.inf_values.specs.Host.{host_of}
 use Rattle.inf_reader.specs.Placing.{value_at, places_of, owners_of}
-use Rattle.inf_reader.specs.Readings.{Readings}
+use Rattle.inf_values.specs.Readings.{Readings}
 use Rattle.inf_reader.specs.UnitsOf.{has_name, unit_of, units_from, units_in, units_of}
 
 module _ (host : Option UnitName) (at : At) (places : List Place) (units : List Unit) (owners : List ℕ) (i : ℕ) where
@@ -38,12 +38,17 @@ module _ (host : Option UnitName) (at : At) (places : List Place) (units : List 
   unfolding units_from
   units-none past = rw (drop_all i owners past) refl
 
-module _ (read : Readings) (folder : List ℕ) (pairs : List Pair) (host : Option UnitName) where
-  pub units_of-refused : (r : InfRefusal) → host ≡ host_of read folder → entries_of host pairs ≡ Err r → units_of read folder pairs ≡ Err r
-  unfolding units_of
-  units_of-refused r same refused = ap (λ h. units_in read h pairs) (sym same) ∙ ap (λ e. e >>= λ entries. units_from host (value_at read entries) (places_of entries) [] (owners_of entries)) refused
+module _ (read : Readings) (means : Meanings) (folder : List ℕ) (pairs : List Pair) (host : Option UnitName) where
+  abbrev after : Result (List Entry) InfRefusal → Result (List Unit) InfRefusal
+  after found = found >>= λ entries. units_from host (value_at read entries) (places_of entries) [] (owners_of entries)
 
-  pub units_of-entries : (entries : List Entry) → host ≡ host_of read folder → entries_of host pairs ≡ Ok entries
-      → units_of read folder pairs ≡ units_from host (value_at read entries) (places_of entries) [] (owners_of entries)
+  whole_is : means ≡ read.key → host ≡ host_of read folder → units_of read folder pairs ≡ after (entries_of means host pairs)
   unfolding units_of
-  units_of-entries entries same given = ap (λ h. units_in read h pairs) (sym same) ∙ ap (λ e. e >>= λ entries. units_from host (value_at read entries) (places_of entries) [] (owners_of entries)) given
+  whole_is keys same = ap (λ h. units_in read h pairs) (sym same) ∙ ap (λ (m : Meanings). after (entries_of m host pairs)) (sym keys)
+
+  pub units_of-refused : (r : InfRefusal) → means ≡ read.key → host ≡ host_of read folder → entries_of means host pairs ≡ Err r → units_of read folder pairs ≡ Err r
+  units_of-refused r keys same refused = whole_is keys same ∙ ap after refused
+
+  pub units_of-entries : (entries : List Entry) → means ≡ read.key → host ≡ host_of read folder → entries_of means host pairs ≡ Ok entries
+      → units_of read folder pairs ≡ units_from host (value_at read entries) (places_of entries) [] (owners_of entries)
+  units_of-entries entries keys same given = whole_is keys same ∙ ap after given

@@ -1,19 +1,22 @@
 -- What the entries of a p2.inf give: a value for each key, and the rows and the units that they speak of.
 use Rattle.std.specs.Prelude.{ℕ, ◌==◌, ◌&&◌, Bool, List, [], Option, Some, None, fold, map, filter, if◌then◌else◌}
-use Rattle.std.specs.Str.{bytes_eq}
-use Rattle.std.specs.Ordering.{nat_cmp, ordering_then}
+use Rattle.std.specs.Ordering.{nat_cmp, ordering_then, is_eq}
 use Rattle.std.specs.declared.cmp.Ordering.{Ordering}
 use Rattle.std.specs.BTreeSet.{insert_key}
-use Rattle.inf_reader.specs.declared.meaning.Place.{Place}
+use Rattle.inf_keys.specs.declared.key.Key.{Key}
+use Rattle.inf_keys.specs.Order.{key_cmp}
+use Rattle.inf_values.specs.declared.reading.Value.{Value}
+use Rattle.inf_values.specs.Readings.{Readings, value_of}
+use Rattle.inf_values.specs.declared.keys.Place.{Place}
 use Rattle.inf_reader.specs.declared.entries.Entry.{Entry}
-use Rattle.inf_reader.specs.declared.value.Value.{Value}
-use Rattle.inf_reader.specs.Readings.{Readings, value_of}
+use Rattle.inf_values.specs.Keys.{class_of}
 
-abbrev pub value_with : Readings → List ℕ → Option Value → Entry → Option Value
-value_with read key found e = if bytes_eq e.key key then Some (value_of read e.class e.text) else found
+-- No two keys are tied.
+abbrev pub value_with : Readings → Key → Option Value → Entry → Option Value
+value_with read key found e = if is_eq (key_cmp e.key key) then Some (value_of read (class_of e.key.part) e.text) else found
 
 -- The value of a key: that of the last entry with the key. The keys of a properties text are distinct.
-unfoldable pub value_at : Readings → List Entry → List ℕ → Option Value
+unfoldable pub value_at : Readings → List Entry → Key → Option Value
 value_at read entries key = fold (value_with read key) None entries
 
 -- by owner, then by list, then by row

@@ -1,51 +1,46 @@
 -- The units of a p2.inf.
-use Rattle.std.specs.Prelude.{ℕ, ◌==◌, ◌&&◌, Bool, false, List, [], ◌∷◌, ◌++◌, Option, Result, Ok, Err, codes, if◌then◌else◌}
+pub use Rattle.inf_values.specs.SameName.{same_version, same_name}
+use Rattle.std.specs.Prelude.{ℕ, Bool, List, [], ◌∷◌, ◌++◌, Option, Result, Ok, Err, if◌then◌else◌}
 use Rattle.std.specs.List.{list_any}
-use Rattle.std.specs.Str.{bytes_eq}
-use Rattle.osgi_version.specs.declared.version.Version.{Version}
 use Rattle.unit_model.specs.declared.name.UnitName.{UnitName}
+use Rattle.unit_model.specs.declared.phase.PhaseText.{PhaseText}
 use Rattle.unit_model.specs.declared.unit.Unit.{Unit}
-use Rattle.inf_reader.specs.declared.meaning.Place.{Place}
+use Rattle.inf_values.specs.Host.{host_of}
+use Rattle.inf_values.specs.Readings.{Readings}
+use Rattle.inf_values.specs.SameName.{same_name}
+use Rattle.inf_values.specs.declared.keys.Place.{Place}
+use Rattle.inf_reader.specs.declared.unit_parts.Head.{Head}
+use Rattle.inf_reader.specs.declared.rows.Lists.{Lists}
 use Rattle.inf_reader.specs.declared.fault.InfRefusal.{InfRefusal}
 use Rattle.inf_reader.specs.declared.fault.InfRefusal.TheVariants.{Duplicate}
 use Rattle.inf_reader.specs.Gives.{◌>>=◌}
-use Rattle.inf_reader.specs.KeyText.{single_key}
 use Rattle.inf_reader.specs.Entries.{Pair, entries_of}
-use Rattle.inf_reader.specs.Host.{host_of}
-use Rattle.inf_reader.specs.Parts.{At, truth_or, filter_if_there}
-use Rattle.inf_reader.specs.Placing.{value_at, places_of, owners_of, rows_in}
-use Rattle.inf_reader.specs.Readings.{Readings}
-use Rattle.inf_reader.specs.UnitParts.{name_of, update_of, touchpoint_of, traverse, property_row, provided_of, required_of, artifact_row, phases_of}
+use Rattle.inf_reader.specs.Parts.{At}
+use Rattle.inf_reader.specs.Placing.{value_at, places_of, owners_of}
+use Rattle.inf_reader.specs.UnitParts.{name_of, head_of, lists_of, phases_of}
 
--- The unit of an owner. Its lists are numbered: properties, provided capabilities, requirements, artifacts.
+-- a unit of these parts
+abbrev pub whole : UnitName → Head → Lists → List PhaseText → Unit
+whole name head lists phases = record {
+  name = name;
+  singleton = head.singleton;
+  filter = head.filter;
+  update = head.update;
+  touchpoint = head.touchpoint;
+  properties = lists.properties;
+  provided = lists.provided;
+  required = lists.required;
+  artifacts = lists.artifacts;
+  phases = phases;
+}
+
+-- the unit of an owner
 unfoldable pub unit_of : Option UnitName → At → List Place → ℕ → Result Unit InfRefusal
 unit_of host at places owner =
     name_of host at owner >>= λ name.
-    filter_if_there at (single_key owner (codes "filter")) >>= λ filter.
-    update_of at owner name >>= λ update.
-    touchpoint_of at owner >>= λ touchpoint.
-    traverse (property_row at owner) (rows_in places owner 1) >>= λ properties.
-    provided_of at owner name (rows_in places owner 2) >>= λ provided.
-    required_of at owner name (rows_in places owner 3) >>= λ required.
-    traverse (artifact_row at owner) (rows_in places owner 4) >>= λ artifacts.
-    Ok (record {
-      name = name;
-      singleton = truth_or at (single_key owner (codes "singleton")) false;
-      filter = filter;
-      update = update;
-      touchpoint = touchpoint;
-      properties = properties;
-      provided = provided;
-      required = required;
-      artifacts = artifacts;
-      phases = phases_of at owner;
-    })
-
-abbrev pub same_version : Version → Version → Bool
-same_version a b = (a.major == b.major) && ((a.minor == b.minor) && ((a.micro == b.micro) && bytes_eq a.qualifier b.qualifier))
-
-abbrev pub same_name : UnitName → UnitName → Bool
-same_name a b = bytes_eq a.id b.id && same_version a.version b.version
+    head_of at owner name >>= λ head.
+    lists_of at places owner name >>= λ lists.
+    Ok (whole name head lists (phases_of at owner))
 
 abbrev pub has_name : List Unit → UnitName → Bool
 has_name units name = list_any (λ u. same_name u.name name) units
@@ -60,7 +55,7 @@ units_from host at places units (owner ∷ owners) =
 
 abbrev pub units_in : Readings → Option UnitName → List Pair → Result (List Unit) InfRefusal
 units_in read host pairs =
-    entries_of host pairs >>= λ entries. units_from host (value_at read entries) (places_of entries) [] (owners_of entries)
+    entries_of read.key host pairs >>= λ entries. units_from host (value_at read entries) (places_of entries) [] (owners_of entries)
 
 -- The units that the pairs in a folder of this name describe, or the first refusal: first of the pairs in their
 -- order, and then unit by unit.

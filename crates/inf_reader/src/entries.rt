@@ -1,15 +1,16 @@
 //! The pairs of a p2.inf, tested in their order.
 
-ghost use Rattle.std.specs.Prelude.{◌≡◌, IfSome};
+ghost use Rattle.std.specs.Prelude.{◌≡◌, IfOk, IfSome};
 ghost use Rattle.std.specs.Option.{option_map};
 ghost use Rattle.osgi_version.specs.VersionText.{IsVersion};
+ghost use Rattle.inf_keys.specs.KeyReading.{key_reading};
+ghost use Rattle.inf_keys.specs.Meaning.{Means, IsOwner};
 ghost use Rattle.inf_reader.specs.Gives.{Gives};
 ghost use Rattle.inf_reader.specs.Entries.{taken, entry_of, entries_of};
 
-use crate::class::Class;
 use crate::fault::InfRefusal;
-use crate::meaning::{HOST, Meaning, Place, meaning_of};
-use crate::replaced::replaced;
+use inf_keys::{Key, Reading, read_key};
+use inf_values::{Place, is_host, place_of, replaced};
 use osgi_version::{Text, Twin};
 use props_reader::Pairs;
 use std::alloc::Global;
@@ -18,24 +19,29 @@ use unit_model::UnitName;
 /// A pair whose value says something.
 #[derive(Debug, Drop)]
 pub(crate) struct Entry {
+    pub(crate) key: Key,
     pub(crate) place: Place,
-    pub(crate) class: Class,
-    pub(crate) key: Text,
     pub(crate) text: Text,
 }
 
-/// What a key means. None where it says nothing.
-#[tactic(auto, unfolding(crate::specs::Entries::taken))]
-fn taken(key: &Text) -> Result<Option<Meaning>, InfRefusal>
-    ensures { Gives (λ found. found) result (taken key.now) }
+fn reading_of(key: &[u8]) -> Reading<Key>
+    ensures means { Means key.now result }
+    ensures value { result ≡ key_reading key.now }
 {
-    let Some(meaning) = meaning_of(key.bytes()) else {
-        return Err(InfRefusal::UnknownKey(key.copy()?));
-    };
-    match meaning.class {
-        Class::LeftOut => Err(InfRefusal::LeftOutKey(key.copy()?)),
-        Class::NoEffect => Ok(None),
-        Class::Plain | Class::Version | Class::Range | Class::Filter => Ok(Some(meaning)),
+    read_key(key)
+}
+
+/// What a key names. None where it says nothing.
+#[tactic(auto, unfolding(crate::specs::Entries::taken))]
+fn taken(key: &Text) -> Result<Option<Key>, InfRefusal>
+    ensures value { Gives (λ found. found) result (taken key_reading key.now) }
+    ensures owner { IfOk result (λ found. IfSome found (λ k. IsOwner k.owner)) }
+{
+    match reading_of(key.bytes()) {
+        Reading::Meaning(found) => Ok(Some(found)),
+        Reading::Silent => Ok(None),
+        Reading::LeftOut => Err(InfRefusal::LeftOutKey(key.copy()?)),
+        Reading::Unknown => Err(InfRefusal::UnknownKey(key.copy()?)),
     }
 }
 
@@ -48,22 +54,21 @@ fn entry_of(
     value: &Text,
 ) -> Result<Option<Entry>, InfRefusal>
     requires { IfSome host (λ h. IsVersion h.now.version) }
-    ensures { Gives (λ found. found) result (entry_of (option_map (λ h. h.now) host.entry) (key.now, value.now)) }
+    ensures { Gives (λ found. found) result (entry_of key_reading (option_map (λ h. h.now) host.entry) (key.now, value.now)) }
 {
-    let meaning = taken(key)?;
+    let named = taken(key)?;
     let Some(text) = replaced(alloc, host, value.as_str())? else {
         return Err(InfRefusal::NoHost(key.copy()?));
     };
-    let Some(meaning) = meaning else {
+    let Some(named) = named else {
         return Ok(None);
     };
-    if meaning.place.owner == HOST && host.is_none() {
+    if is_host(named.owner) && host.is_none() {
         return Err(InfRefusal::NoHost(key.copy()?));
     }
     Ok(Some(Entry {
-        place: meaning.place,
-        class: meaning.class,
-        key: key.copy()?,
+        key: named,
+        place: place_of(named),
         text,
     }))
 }
@@ -75,7 +80,7 @@ pub(crate) fn entries_of(
     pairs: &Pairs,
 ) -> Result<Vec<Entry>, InfRefusal>
     requires { IfSome host (λ h. IsVersion h.now.version) }
-    ensures { Gives (λ found. found.items) result (entries_of (option_map (λ h. h.now) host.entry) pairs.now) }
+    ensures { Gives (λ found. found.items) result (entries_of key_reading (option_map (λ h. h.now) host.entry) pairs.now) }
 {
     let mut entries = Vec::new(alloc);
     for place in 0..pairs.len() {

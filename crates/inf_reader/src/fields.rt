@@ -1,229 +1,129 @@
-//! The values of the parts of a unit and of the fields of its rows.
+//! The values of single keys.
 
-ghost use Rattle.std.specs.Prelude.{◌≡◌, IfOk};
+ghost use Rattle.std.specs.Prelude.{◌≡◌};
+ghost use Rattle.std.specs.Option.{option_map};
 ghost use Rattle.inf_reader.specs.Gives.{Gives};
 ghost use Rattle.inf_reader.specs.TableAt.{at};
-ghost use Rattle.inf_reader.specs.KeyText.{single_key, row_key};
-ghost use Rattle.inf_reader.specs.Parts.{text_or, needed_text, needed_id, needed_version, version_or, range_or, number_or, filter_if_there, truth_or, has};
+ghost use Rattle.inf_reader.specs.Parts.{has, text_at, truth_or, needed_text, needed_id, needed_version, version_if_there, range_if_there, number_or, filter_if_there};
 
 use crate::fault::InfRefusal;
-use crate::key_text::{row_key, single_key};
 use crate::table::Table;
+use inf_keys::{Key, write_key};
 use ldap_filter::Filter;
-use osgi_version::{NoMemory, Range, Text, Version};
-use std::alloc::Global;
+use osgi_version::{Range, Text, Version};
 
-pub(crate) fn has_part(
-    alloc: Global,
-    table: &Table,
-    owner: u32,
-    part: &str,
-) -> Result<bool, NoMemory>
-    ensures { IfOk result (λ there. there ≡ has (at table.now) (single_key owner part.now)) }
-{
-    let key = single_key(alloc, owner, part)?;
-    Ok(table.has(&key))
-}
+impl Table {
+    pub(crate) fn has(&self, key: Key) -> bool
+        ensures { result ≡ has (at self.now) key }
+    {
+        self.get(key).is_some()
+    }
 
-pub(crate) fn part_text(
-    alloc: Global,
-    table: &Table,
-    owner: u32,
-    part: &str,
-) -> Result<Text, InfRefusal>
-    ensures { Gives (λ text. text) result (needed_text (at table.now) (single_key owner part.now)) }
-{
-    table.needed_text(single_key(alloc, owner, part)?)
-}
+    /// The text of a key that has one.
+    #[tactic(auto, unfolding(crate::specs::Parts::text_at))]
+    pub(crate) fn text(&self, key: Key) -> Option<&Text>
+        ensures { option_map (λ t. t.now) result ≡ text_at (at self.now) key }
+    {
+        self.get(key)?.plain()
+    }
 
-pub(crate) fn part_id(
-    alloc: Global,
-    table: &Table,
-    owner: u32,
-    part: &str,
-) -> Result<Text, InfRefusal>
-    ensures { Gives (λ id. id) result (needed_id (at table.now) (single_key owner part.now)) }
-{
-    table.needed_id(single_key(alloc, owner, part)?)
-}
+    #[tactic(auto, unfolding(crate::specs::Parts::truth_or))]
+    pub(crate) fn truth_or(&self, key: Key, default: bool) -> bool
+        ensures { result ≡ truth_or (at self.now) key default }
+    {
+        match self.get(key) {
+            Some(value) => value.truth(),
+            None => default,
+        }
+    }
 
-pub(crate) fn part_version(
-    alloc: Global,
-    table: &Table,
-    owner: u32,
-    part: &str,
-) -> Result<Version, InfRefusal>
-    ensures { Gives (λ version. version) result (needed_version (at table.now) (single_key owner part.now)) }
-{
-    table.needed_version(single_key(alloc, owner, part)?)
-}
+    #[tactic(auto, unfolding(crate::specs::Parts::needed_text))]
+    pub(crate) fn needed_text(&self, key: Key) -> Result<&Text, InfRefusal>
+        ensures { Gives (λ text. text.now) result (needed_text (at self.now) key) }
+    {
+        match self.text(key) {
+            Some(text) => Ok(text),
+            None => Err(InfRefusal::BadValue(write_key(self.alloc, &key)?)),
+        }
+    }
 
-pub(crate) fn part_range_or(
-    alloc: Global,
-    table: &Table,
-    owner: u32,
-    part: &str,
-    default: Range,
-) -> Result<Range, InfRefusal>
-    ensures { Gives (λ range. range) result (range_or (at table.now) (single_key owner part.now) default) }
-{
-    table.range_or(single_key(alloc, owner, part)?, default)
-}
+    /// The text of a key, which has the form of a unit's id.
+    #[tactic(auto, unfolding(crate::specs::Parts::needed_id))]
+    pub(crate) fn needed_id(&self, key: Key) -> Result<&Text, InfRefusal>
+        ensures { Gives (λ id. id.now) result (needed_id (at self.now) key) }
+    {
+        if let Some(value) = self.get(key) {
+            if let Some(id) = value.id() {
+                return Ok(id);
+            }
+        }
+        Err(InfRefusal::BadValue(write_key(self.alloc, &key)?))
+    }
 
-pub(crate) fn part_number_or(
-    alloc: Global,
-    table: &Table,
-    owner: u32,
-    part: &str,
-    default: u32,
-) -> Result<u32, InfRefusal>
-    ensures { Gives (λ number. number) result (number_or (at table.now) (single_key owner part.now) default) }
-{
-    table.number_or(single_key(alloc, owner, part)?, default)
-}
+    #[tactic(auto, unfolding(crate::specs::Parts::needed_version))]
+    pub(crate) fn needed_version(&self, key: Key) -> Result<&Version, InfRefusal>
+        ensures { Gives (λ version. version.now) result (needed_version (at self.now) key) }
+    {
+        if let Some(value) = self.get(key) {
+            if let Some(version) = value.version() {
+                return Ok(version);
+            }
+        }
+        Err(InfRefusal::BadValue(write_key(self.alloc, &key)?))
+    }
 
-pub(crate) fn part_filter(
-    alloc: Global,
-    table: &Table,
-    owner: u32,
-    part: &str,
-) -> Result<Option<Filter>, InfRefusal>
-    ensures { Gives (λ filter. filter) result (filter_if_there (at table.now) (single_key owner part.now)) }
-{
-    table.filter_if_there(single_key(alloc, owner, part)?)
-}
+    /// The version of a key. None where the key isn't there.
+    #[tactic(auto, unfolding(crate::specs::Parts::version_if_there))]
+    pub(crate) fn version(&self, key: Key) -> Result<Option<&Version>, InfRefusal>
+        ensures { Gives (λ found. option_map (λ v. v.now) found) result (version_if_there (at self.now) key) }
+    {
+        let Some(value) = self.get(key) else {
+            return Ok(None);
+        };
+        match value.version() {
+            Some(version) => Ok(Some(version)),
+            None => Err(InfRefusal::BadValue(write_key(self.alloc, &key)?)),
+        }
+    }
 
-pub(crate) fn part_text_or(
-    alloc: Global,
-    table: &Table,
-    owner: u32,
-    part: &str,
-    default: &Text,
-) -> Result<Text, NoMemory>
-    ensures { IfOk result (λ text. text ≡ text_or (at table.now) (single_key owner part.now) default.now) }
-{
-    let text = table.text_or(&single_key(alloc, owner, part)?, default)?;
-    Ok(text)
-}
+    /// The range of a key. None where the key isn't there.
+    #[tactic(auto, unfolding(crate::specs::Parts::range_if_there))]
+    pub(crate) fn range(&self, key: Key) -> Result<Option<&Range>, InfRefusal>
+        ensures { Gives (λ found. option_map (λ r. r.now) found) result (range_if_there (at self.now) key) }
+    {
+        let Some(value) = self.get(key) else {
+            return Ok(None);
+        };
+        match value.range() {
+            Some(range) => Ok(Some(range)),
+            None => Err(InfRefusal::BadValue(write_key(self.alloc, &key)?)),
+        }
+    }
 
-pub(crate) fn part_truth_or(
-    alloc: Global,
-    table: &Table,
-    owner: u32,
-    part: &str,
-    default: bool,
-) -> Result<bool, NoMemory>
-    ensures { IfOk result (λ truth. truth ≡ truth_or (at table.now) (single_key owner part.now) default) }
-{
-    let key = single_key(alloc, owner, part)?;
-    Ok(table.truth_or(&key, default))
-}
+    /// The filter of a key. None where the key isn't there.
+    #[tactic(auto, unfolding(crate::specs::Parts::filter_if_there))]
+    pub(crate) fn filter(&self, key: Key) -> Result<Option<&Filter>, InfRefusal>
+        ensures { Gives (λ found. option_map (λ f. f.now) found) result (filter_if_there (at self.now) key) }
+    {
+        let Some(value) = self.get(key) else {
+            return Ok(None);
+        };
+        match value.filter() {
+            Some(filter) => Ok(Some(filter)),
+            None => Err(InfRefusal::BadValue(write_key(self.alloc, &key)?)),
+        }
+    }
 
-pub(crate) fn row_text(
-    alloc: Global,
-    table: &Table,
-    owner: u32,
-    list: &str,
-    row: u32,
-    field: &str,
-) -> Result<Text, InfRefusal>
-    ensures { Gives (λ text. text) result (needed_text (at table.now) (row_key owner list.now row field.now)) }
-{
-    table.needed_text(row_key(alloc, owner, list, row, field)?)
-}
-
-pub(crate) fn row_id(
-    alloc: Global,
-    table: &Table,
-    owner: u32,
-    list: &str,
-    row: u32,
-    field: &str,
-) -> Result<Text, InfRefusal>
-    ensures { Gives (λ id. id) result (needed_id (at table.now) (row_key owner list.now row field.now)) }
-{
-    table.needed_id(row_key(alloc, owner, list, row, field)?)
-}
-
-pub(crate) fn row_version(
-    alloc: Global,
-    table: &Table,
-    owner: u32,
-    list: &str,
-    row: u32,
-    field: &str,
-) -> Result<Version, InfRefusal>
-    ensures { Gives (λ version. version) result (needed_version (at table.now) (row_key owner list.now row field.now)) }
-{
-    table.needed_version(row_key(alloc, owner, list, row, field)?)
-}
-
-pub(crate) fn row_version_or(
-    alloc: Global,
-    table: &Table,
-    owner: u32,
-    list: &str,
-    row: u32,
-    field: &str,
-    default: &Version,
-) -> Result<Version, InfRefusal>
-    ensures { Gives (λ version. version) result (version_or (at table.now) (row_key owner list.now row field.now) default.now) }
-{
-    table.version_or(row_key(alloc, owner, list, row, field)?, default)
-}
-
-pub(crate) fn row_range_or(
-    alloc: Global,
-    table: &Table,
-    owner: u32,
-    list: &str,
-    row: u32,
-    field: &str,
-    default: Range,
-) -> Result<Range, InfRefusal>
-    ensures { Gives (λ range. range) result (range_or (at table.now) (row_key owner list.now row field.now) default) }
-{
-    table.range_or(row_key(alloc, owner, list, row, field)?, default)
-}
-
-pub(crate) fn row_number_or(
-    alloc: Global,
-    table: &Table,
-    owner: u32,
-    list: &str,
-    row: u32,
-    field: &str,
-    default: u32,
-) -> Result<u32, InfRefusal>
-    ensures { Gives (λ number. number) result (number_or (at table.now) (row_key owner list.now row field.now) default) }
-{
-    table.number_or(row_key(alloc, owner, list, row, field)?, default)
-}
-
-pub(crate) fn row_filter(
-    alloc: Global,
-    table: &Table,
-    owner: u32,
-    list: &str,
-    row: u32,
-    field: &str,
-) -> Result<Option<Filter>, InfRefusal>
-    ensures { Gives (λ filter. filter) result (filter_if_there (at table.now) (row_key owner list.now row field.now)) }
-{
-    table.filter_if_there(row_key(alloc, owner, list, row, field)?)
-}
-
-pub(crate) fn row_truth_or(
-    alloc: Global,
-    table: &Table,
-    owner: u32,
-    list: &str,
-    row: u32,
-    field: &str,
-    default: bool,
-) -> Result<bool, NoMemory>
-    ensures { IfOk result (λ truth. truth ≡ truth_or (at table.now) (row_key owner list.now row field.now) default) }
-{
-    let key = row_key(alloc, owner, list, row, field)?;
-    Ok(table.truth_or(&key, default))
+    #[tactic(auto, unfolding(crate::specs::Parts::number_or))]
+    pub(crate) fn number_or(&self, key: Key, default: u32) -> Result<u32, InfRefusal>
+        ensures { Gives (λ number. number) result (number_or (at self.now) key default) }
+    {
+        let Some(value) = self.get(key) else {
+            return Ok(default);
+        };
+        match value.number() {
+            Some(number) => Ok(number),
+            None => Err(InfRefusal::BadValue(write_key(self.alloc, &key)?)),
+        }
+    }
 }

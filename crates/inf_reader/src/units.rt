@@ -2,46 +2,51 @@
 
 ghost use Rattle.std.specs.Prelude.{◌≡◌, []};
 ghost use Rattle.std.specs.Option.{option_map};
+ghost use Rattle.inf_values.specs.Readings.{Readings, ReadsAll};
 ghost use Rattle.inf_reader.specs.Gives.{Gives};
 ghost use Rattle.inf_reader.specs.InForm.{InForm};
-ghost use Rattle.inf_reader.specs.Readings.{Readings, ReadsAll};
 ghost use Rattle.inf_reader.specs.TableAt.{at};
-ghost use Rattle.inf_reader.specs.UnitsOf.{unit_of, units_from, units_of};
+ghost use Rattle.inf_reader.specs.UnitsOf.{whole, unit_of, units_from, units_of};
 
 use crate::entries::entries_of;
 use crate::fault::InfRefusal;
-use crate::fields::{part_filter, part_truth_or};
-use crate::host::host_of;
-use crate::names::NameSet;
-use crate::rows::{artifacts_of, properties_of, provided_of, required_of};
+use crate::rows::{Lists, lists_of};
 use crate::table::{Table, table_of};
-use crate::unit_parts::{name_of, phases_of, touchpoint_of, update_of};
+use crate::unit_parts::{Head, head_of, name_of, phases_of};
+use inf_values::{NameSet, host_of};
 use osgi_version::List;
 use props_reader::Pairs;
 use std::alloc::Global;
-use unit_model::{Unit, UnitName};
+use unit_model::{PhaseText, Unit, UnitName};
 
 /// The unit of an owner.
 #[tactic(auto, unfolding(crate::specs::UnitsOf::unit_of))]
-fn unit_of(
-    alloc: Global,
-    host: Option<&UnitName>,
-    table: &Table,
-    owner: u32,
-) -> Result<Unit, InfRefusal>
+fn unit_of(host: Option<&UnitName>, table: &Table, owner: u32) -> Result<Unit, InfRefusal>
     ensures { Gives (λ unit. unit) result (unit_of (option_map (λ h. h.now) host.entry) (at table.now) table.now.places.keys owner) }
 {
-    let name = name_of(alloc, host, table, owner)?;
-    let singleton = part_truth_or(alloc, table, owner, "singleton", false)?;
-    let filter = part_filter(alloc, table, owner, "filter")?;
-    let update = update_of(alloc, table, owner, &name)?;
-    let touchpoint = touchpoint_of(alloc, table, owner)?;
-    let properties = properties_of(alloc, table, owner)?;
-    let provided = provided_of(alloc, table, owner, &name)?;
-    let required = required_of(alloc, table, owner, &name)?;
-    let artifacts = artifacts_of(alloc, table, owner)?;
-    let phases = phases_of(alloc, table, owner)?;
-    Ok(Unit {
+    let name = name_of(host, table, owner)?;
+    let head = head_of(table, owner, &name)?;
+    let lists = lists_of(table, owner, &name)?;
+    let phases = phases_of(table, owner)?;
+    Ok(whole(name, head, lists, phases))
+}
+
+fn whole(name: UnitName, head: Head, lists: Lists, phases: List<PhaseText>) -> Unit
+    ensures { result ≡ whole name head lists phases }
+{
+    let Head {
+        singleton,
+        filter,
+        update,
+        touchpoint,
+    } = head;
+    let Lists {
+        properties,
+        provided,
+        required,
+        artifacts,
+    } = lists;
+    Unit {
         name,
         singleton,
         filter,
@@ -52,7 +57,7 @@ fn unit_of(
         required,
         artifacts,
         phases,
-    })
+    }
 }
 
 /// The units of these owners, each with a name of its own.
@@ -67,7 +72,7 @@ fn units_from(
     let mut units = List::new(alloc);
     let mut names = NameSet::new(alloc);
     for owner in owners {
-        let unit = unit_of(alloc, host, table, *owner)?;
+        let unit = unit_of(host, table, *owner)?;
         let new = names.add(alloc, &unit.name)?;
         if !new {
             return Err(InfRefusal::Duplicate(unit.name));
@@ -87,6 +92,6 @@ pub fn units_of(alloc: Global, folder: &[u8], pairs: &Pairs) -> Result<List<Unit
     let host = host_of(alloc, folder)?;
     let entries = entries_of(alloc, host.as_ref(), pairs)?;
     let table = table_of(alloc, &entries)?;
-    let owners = table.owners(alloc)?;
+    let owners = table.owners()?;
     units_from(alloc, host.as_ref(), &table, &owners)
 }

@@ -1,0 +1,11 @@
+pub mod FilterReadings
+pub mod HostLemmas
+pub mod IdLemmas
+pub mod NameLemmas
+pub mod NumberLemmas
+pub mod NumberOrder
+pub mod RangeReadings
+pub mod ReadingLemmas
+pub mod ReplacedLemmas
+pub mod TruthLemmas
+pub mod VersionReadings

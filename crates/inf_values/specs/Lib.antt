@@ -1,0 +1,10 @@
+pub mod Defaults
+pub mod Host
+pub mod Keys
+pub mod NameKeys
+pub mod Number
+pub mod Readings
+pub mod Replaced
+pub mod SameName
+pub mod Values
+pub mod Variable

@@ -1,0 +1,4 @@
+mod AttemptLaws
+mod PickLaws
+mod PlanLaws
+mod PreferLaws

@@ -1,0 +1,5 @@
+pub mod Attempting
+pub mod Faults
+pub mod Planning
+pub mod Preferring
+pub mod Selecting

@@ -1,0 +1,14 @@
+//! The planner: which units of a catalog are to be installed for some roots, or the evidence that none can be.
+#![tactic(auto)]
+
+mod ask;
+mod attempt;
+mod choosing;
+mod fault;
+mod planned;
+mod planning;
+mod preferring;
+
+pub use fault::PlanFault;
+pub use planned::{LeftOut, Planned};
+pub use planning::plan;

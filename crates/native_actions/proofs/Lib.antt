@@ -1,0 +1,11 @@
+pub mod Calls
+pub mod ChMods
+pub mod Deep
+pub mod Effects
+pub mod Gathered
+pub mod Links
+pub mod MkDirs
+pub mod Near
+pub mod Removings
+pub mod RmDirs
+pub mod Settings

@@ -1,0 +1,16 @@
+//! The actions of the native touchpoint: one file for each kind.
+#![tactic(auto)]
+
+mod chmod;
+mod codes;
+mod link;
+mod mkdir;
+mod remove;
+mod rmdir;
+mod steps;
+
+pub use chmod::{ChMod, ChModRow};
+pub use link::{Link, LinkRow};
+pub use mkdir::{MkDir, MkDirRow};
+pub use remove::{Remove, RemoveRow};
+pub use rmdir::{RmDir, RmDirRow};

@@ -1,5 +1,0 @@
-use Rattle.inf_reader.proofs.TruthLemmas.{is_true-same}
-use Rattle.inf_reader.proofs.parts.is_true.Goals as goal
-
-pub returns : goal.returns
-returns c = is_true-same c.eq_ignore_ascii_case.result c.args.text.now c.eq_ignore_ascii_case.ensures.test

@@ -1,7 +1,0 @@
-use Rattle.std.proofs.lemmas.Bool.Decides.{Decides-eqb}
-use Rattle.std.proofs.lemmas.Slice.Eq.{strip_prefix_is}
-use Rattle.instr_parser.proofs.Fronts.{behind_is}
-use Rattle.instr_parser.proofs.front.behind_bytes.Goals as goal
-
-pub returns : goal.returns
-returns c = behind_is c.args.front.now c.args.bytes.now c.strip_prefix.result (strip_prefix_is Decides-eqb c.args.bytes.now c.args.front.now c.strip_prefix.result c.strip_prefix.ensures.cases)

@@ -98,6 +98,43 @@ pub(crate) fn push_problem(
     }
 }
 
+/// The numbers below the count.
+fn first_members(alloc: Global, row: &Row) -> Result<List<u32>, NoMemory> {
+    let mut members = List::new(alloc);
+    for number in 0..row.word(1).parse::<u32>().unwrap_or(0) {
+        members.push(number)?;
+    }
+    Ok(members)
+}
+
+fn push_term_count(line: &mut Vec<u8>, constraints: &[Constraint]) -> Result<(), NoMemory> {
+    let mut count: u32 = 0;
+    for constraint in constraints {
+        let more = u32::try_from(constraint.terms.len()).unwrap_or(u32::MAX);
+        count = count.saturating_add(more);
+    }
+    push_word(line, "terms ")?;
+    push_number(line, count)
+}
+
+/// `terms COUNT | ID VERSION ..`: how many terms the problem of the first members has for these roots.
+pub(crate) fn push_terms(
+    line: &mut Vec<u8>,
+    alloc: Global,
+    scene: &Scene,
+    row: &Row,
+) -> Result<(), NoMemory> {
+    let members = first_members(alloc, row)?;
+    let roots = roots(alloc, row)?;
+    let question = Question { members, roots };
+    match ask(scene, &question) {
+        None => push_word(line, "no members"),
+        Some(Ok(problem)) => push_term_count(line, problem.constraints.items()),
+        Some(Err(EncodeFault::TooLarge)) => push_word(line, "too large"),
+        Some(Err(EncodeFault::NoMemory)) => Err(NoMemory),
+    }
+}
+
 /// How many subsets are valid, and at how many the constraints say otherwise.
 #[derive(Clone, Copy)]
 struct Tally {

@@ -1,10 +1,10 @@
 //! What the rows speak of.
 
-use crate::problems::{push_problem, push_subsets};
+use crate::problems::{push_problem, push_subsets, push_terms};
 use crate::push::push_word;
 use inf_reader::units_of;
 use ldap_filter::{Env, EnvFault};
-use osgi_version::{List, NoMemory, Text};
+use osgi_version::{List, NoMemory, Text, push_number};
 use props_reader::{PropsFault, read};
 use std::alloc::Global;
 use suite_row::Row;
@@ -56,6 +56,8 @@ impl Scene {
             "new" => self.begin(answer, alloc),
             "on" => self.set(answer, row),
             "add" => self.add(answer, alloc, row.field(1)),
+            "each" => self.add_numbered(answer, alloc, row),
+            "terms" => push_terms(answer, alloc, self, row),
             "problem" => push_problem(answer, alloc, self, row),
             "subsets" => push_subsets(answer, alloc, self, row),
             _ => push_word(answer, "no question"),
@@ -78,9 +80,26 @@ impl Scene {
         }
     }
 
+    /// `each COUNT TEXT`: for each number below the count, the units of this description with it in the place of `*`
+    /// stand behind those of the catalog.
+    fn add_numbered(
+        &mut self,
+        answer: &mut Vec<u8>,
+        alloc: Global,
+        row: &Row,
+    ) -> Result<(), NoMemory> {
+        for number in 0..row.word(1).parse::<u32>().unwrap_or(0) {
+            let text = numbered(alloc, row.field(2).bytes(), number)?;
+            if let Some(units) = read_units(alloc, text.as_slice())? {
+                add_each(&mut self.catalog, units)?;
+            }
+        }
+        push_word(answer, "added")
+    }
+
     /// `add TEXT`: the units of this description stand behind those of the catalog.
     fn add(&mut self, answer: &mut Vec<u8>, alloc: Global, text: &Text) -> Result<(), NoMemory> {
-        match read_units(alloc, text)? {
+        match read_units(alloc, text.bytes())? {
             Some(units) => {
                 add_each(&mut self.catalog, units)?;
                 push_word(answer, "added")
@@ -90,9 +109,22 @@ impl Scene {
     }
 }
 
+/// The text with the number in the place of each `*`.
+fn numbered(alloc: Global, text: &[u8], number: u32) -> Result<Vec<u8>, NoMemory> {
+    let mut numbered = Vec::new(alloc);
+    for byte in text {
+        if *byte == b'*' {
+            push_number(&mut numbered, number)?;
+        } else {
+            numbered.push(*byte)?;
+        }
+    }
+    Ok(numbered)
+}
+
 /// The units of a description in the folder `f`. None where it is refused.
-fn read_units(alloc: Global, text: &Text) -> Result<Option<List<Unit>>, NoMemory> {
-    match read(alloc, text.bytes()) {
+fn read_units(alloc: Global, text: &[u8]) -> Result<Option<List<Unit>>, NoMemory> {
+    match read(alloc, text) {
         Ok(pairs) => Ok(units_of(alloc, b"f", &pairs).ok()),
         Err(PropsFault::BadEscape { .. }) => Ok(None),
         Err(PropsFault::NoMemory) => Err(NoMemory),

@@ -16,7 +16,7 @@ mod tickets;
 pub use action::Action;
 pub use fault::ActionFault;
 pub use looking::{is_at_or_below, stands_under};
-pub use placing::{flag_of, mode_of};
+pub use placing::{flag_of, lengthened, mode_of};
 pub use row::Row;
 pub use shape::Shape;
 pub use step::Step;

@@ -80,7 +80,7 @@ pub fn flag_of(call: &Call, code: u16) -> bool
 }
 
 /// The path with these names at its end. A path of 64 names can't be made longer.
-fn lengthened(path: Path, names: &[Name]) -> Result<Path, ActionFault>
+pub fn lengthened(path: Path, names: &[Name]) -> Result<Path, ActionFault>
     ensures longer { IfOk result (λ longer. longer ≡ path ++ names.now) }
     ensures refused { IfErr result (λ fault. fault ≢ ActionFault.NoMemory → too_deep (path ++ names.now) ≡ Some fault) }
 {

@@ -1,13 +1,14 @@
 -- What a call has that fills the slots of its kind.
 use Rattle.std.proofs.Common.{◌≡◌, ℕ, ◌≤◌, true, false, List, [], ◌∷◌, ◌++◌, length, inl, inr, refl, sym, ◌∙◌, ap, subst, arith, append_assoc}
 use Rattle.std.specs.List.{Contains, flat_map}
+use Rattle.instr_parser.specs.declared.call.Base.{Base}
 use Rattle.instr_parser.specs.declared.call.Base.TheVariants.{Install, Artifact}
 use Rattle.instr_parser.specs.declared.call.Call.{Call}
 use Rattle.instr_parser.specs.declared.call.Param.{Param}
 use Rattle.instr_parser.specs.declared.call.Value.{Value}
 use Rattle.instr_parser.specs.declared.call.Value.TheVariants.{Place, Names, Plain, Flag, Mode}
-use Rattle.action_core.specs.Calls.{Form, APlace, SomeNames, AText, AMode, HasForm, Slot, needed, Fill, IsPlace, IsPlain, AreNames, IsMode}
-use Rattle.action_core.specs.Places.{Site, value_in, value_of, place_or_root, names_or_none, mode_or_zero, text_or_none, place_at, names_at, mode_at, text_at, first_place, place_list, places_of}
+use Rattle.action_core.specs.Calls.{Form, APlace, ASource, SomeNames, AText, AMode, HasForm, Slot, needed, Fill, IsPlace, IsSource, IsPlain, AreNames, IsMode}
+use Rattle.action_core.specs.Places.{Site, base_path, value_in, value_of, place_or_root, names_or_none, mode_or_zero, text_or_none, place_at, names_at, mode_at, text_at, first_place, place_list, places_of}
 
 abbrev pub param : ℕ → Value → Param
 param code value = record { code = code; value = value }
@@ -142,4 +143,51 @@ link_place site call fills =
       is = at ∙ append_assoc site.install front.0 back.0;
       has = subst (λ (l : List (List (List ℕ))). Contains l (place_at site call 4 ++ names_at call 8)) (sym places) (1, omega arith, sym at);
       target = subst (λ (n : ℕ). n ≤ 4096) (sym (ap (λ (l : List Param). length (text_or_none (value_in l 7))) all)) target.2;
+    }
+
+pub source_value : (value : Value) → IsSource value → (base : Base) × (names : List (List ℕ)) × (value ≡ Place base names)
+source_value (Place base names) is = (base, names, refl)
+source_value (Names names) is = absurd is
+source_value (Plain text) is = absurd is
+source_value (Flag flag) is = absurd is
+source_value (Mode mode) is = absurd is
+
+-- Its source, and its target in the folder of the profile.
+pub record TwoPlaces (site : Site) (call : Call) : Type 0 where
+  pub base : Base
+  pub source : List (List ℕ)
+  pub form : IsSource (Place base source)
+  pub source_is : place_at site call 1 ≡ base_path site base ++ source
+  pub has_source : Contains (places_of site call) (place_at site call 1)
+  pub target : List (List ℕ)
+  pub short : length target ≤ 60
+  pub target_is : place_at site call 2 ≡ site.install ++ target
+  pub has_target : Contains (places_of site call) (place_at site call 2)
+
+pub two_places : (slots : List Slot) (site : Site) (call : Call) → Fill (needed 1 ASource ∷ needed 2 APlace ∷ slots) call.params → TwoPlaces site call
+unfolding value_of
+two_places slots site call fills =
+    let one = first_param 1 ASource (needed 2 APlace ∷ slots) call.params fills in
+    let two = first_param 2 APlace slots one.1 one.5 in
+    let from = source_value one.0.value one.4 in
+    let to = place_names two.0.value two.4 in
+    let second : one.1 ≡ param 2 (Place Install to.0) ∷ two.1 =
+    two.2 ∙ ap (λ (p : Param). p ∷ two.1) (same_param two.0 2 (Place Install to.0) two.3 to.1) in
+    let all : call.params ≡ param 1 (Place from.0 from.1) ∷ param 2 (Place Install to.0) ∷ two.1 =
+    one.2 ∙ ap (λ (l : List Param). one.0 ∷ l) second ∙ ap (λ (p : Param). p ∷ param 2 (Place Install to.0) ∷ two.1) (same_param one.0 1 (Place from.0 from.1) one.3 from.2) in
+    let source : place_at site call 1 ≡ base_path site from.0 ++ from.1 = ap (λ (l : List Param). place_or_root site (value_in l 1)) all in
+    let target : place_at site call 2 ≡ site.install ++ to.0 = ap (λ (l : List Param). place_or_root site (value_in l 2)) all in
+    let more = flat_map (λ (p : Param). place_list site (base_path site from.0 ++ from.1) p.value) two.1 in
+    let places : places_of site call ≡ (base_path site from.0 ++ from.1) ∷ (site.install ++ to.0) ∷ more =
+    ap (λ (l : List Param). flat_map (λ (p : Param). place_list site (first_place site l) p.value) l) all in
+    record {
+      base = from.0;
+      source = from.1;
+      form = subst IsSource from.2 one.4;
+      source_is = source;
+      has_source = subst (λ (l : List (List (List ℕ))). Contains l (place_at site call 1)) (sym places) (0, omega arith, sym source);
+      target = to.0;
+      short = to.2;
+      target_is = target;
+      has_target = subst (λ (l : List (List (List ℕ))). Contains l (place_at site call 2)) (sym places) (1, omega arith, sym target);
     }

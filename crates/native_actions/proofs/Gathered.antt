@@ -1,5 +1,5 @@
 -- What a shape has at or below a place is what the map has there.
-use Rattle.std.proofs.Common.{◌≡◌, ℕ, zero, suc, ◌+◌, Bool, true, false, cond, List, [], ◌∷◌, length, get_or, drop, inl, inr, refl, sym, ◌∙◌, ap, subst, arith}
+use Rattle.std.proofs.Common.{◌≡◌, ℕ, zero, suc, ◌+◌, Bool, true, false, cond, List, [], ◌∷◌, ◌++◌, length, get_or, drop, inl, inr, refl, sym, ◌∙◌, ap, subst, arith}
 use Rattle.std.specs.Prelude.{◌&&◌, is_some, IsSome}
 use Rattle.std.specs.List.{All, AllPairs, Contains, filter}
 use Rattle.std.proofs.lemmas.Bool.{cases_Bool}
@@ -16,8 +16,11 @@ use Rattle.install_journal.proofs.Orders.{not_before_itself}
 use Rattle.action_core.specs.Standing.{AreRising, IsAtOrBelow, IsUnder, SameNear, is_at_or_below, stands_in, stands_under, under_in}
 use Rattle.action_core.proofs.Lookups.{rises_far, stands_first}
 
+pub rest_behind : (place path : List (List ℕ)) → is_at_or_below place path ≡ true → path ≡ place ++ drop (length place) path
+rest_behind place path is = (starts_is bytes_eq-Decides path place (is_at_or_below place path) refl).0 is
+
 pub at_or_below : (place path : List (List ℕ)) → is_at_or_below place path ≡ true → IsAtOrBelow place path
-at_or_below place path is = (drop (length place) path, (starts_is bytes_eq-Decides path place (is_at_or_below place path) refl).0 is)
+at_or_below place path is = (drop (length place) path, rest_behind place path is)
 
 pub at_or_below_true : (place path : List (List ℕ)) → IsAtOrBelow place path → is_at_or_below place path ≡ true
 at_or_below_true place path (rest, is) = (starts_is bytes_eq-Decides path place (is_at_or_below place path) refl).1 rest is

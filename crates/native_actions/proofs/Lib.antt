@@ -1,5 +1,7 @@
 pub mod Calls
 pub mod ChMods
+pub mod Copied
+pub mod Copies
 pub mod Deep
 pub mod Effects
 pub mod Gathered

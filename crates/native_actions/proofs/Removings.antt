@@ -98,13 +98,13 @@ record CanGo (install : List (List ℕ)) (m : Map) (touches : List Touch) : Type
   closed : (touch : Touch) → Contains touches touch → (path : List (List ℕ)) → IsBelow touch.path path → IsSome (m path) → Contains touches (record { path = path; node = m path })
   inside : (touch : Touch) → Contains touches touch → IsBelow install touch.path
 
-behind : (touch : Touch) (touches : List Touch) (other : Touch) → Contains touches other → Contains (touch ∷ touches) other
+pub behind : (touch : Touch) (touches : List Touch) (other : Touch) → Contains touches other → Contains (touch ∷ touches) other
 behind touch touches other (k, below, is) = (suc k, omega arith, is)
 
-before_all : (touch : Touch) (touches : List Touch) (other : Touch) → AllPairs (λ (a b : Touch). IsPathBefore a.path b.path) (touch ∷ touches) → Contains touches other → IsPathBefore touch.path other.path
+pub before_all : (touch : Touch) (touches : List Touch) (other : Touch) → AllPairs (λ (a b : Touch). IsPathBefore a.path b.path) (touch ∷ touches) → Contains touches other → IsPathBefore touch.path other.path
 before_all touch touches other rising (k, below, is) = subst (λ (t : Touch). IsPathBefore touch.path t.path) is (rising 0 (suc k) other (omega arith) (omega arith))
 
-below_after : (above path : List (List ℕ)) → IsBelow above path → IsPathBefore above path
+pub below_after : (above path : List (List ℕ)) → IsBelow above path → IsPathBefore above path
 below_after above path (name, rest, is) = subst (IsPathBefore above) (sym is) (above_first above name rest)
 
 can_go_behind : (install : List (List ℕ)) (m : Map) (touch : Touch) (touches : List Touch) → CanGo install m (touch ∷ touches) → CanGo install m touches
@@ -145,7 +145,7 @@ not_among (touch ∷ touches) path before = elim (cases_Bool (path_eqb touch.pat
 parent_before : (path : List (List ℕ)) → path ≢ [] → IsPathBefore (parent path) path
 parent_before path some = let last = front_last path some in below_after (parent path) path (last.0, [], last.1)
 
-some_node : (found : Option Node) → IsSome found → (node : Node) × (found ≡ Some node)
+pub some_node : (found : Option Node) → IsSome found → (node : Node) × (found ≡ Some node)
 some_node None some = absurd (let never : ⊥ = cc in never)
 some_node (Some node) some = (node, refl)
 

@@ -3,6 +3,7 @@
 
 mod chmod;
 mod codes;
+mod copy;
 mod link;
 mod mkdir;
 mod remove;
@@ -10,6 +11,7 @@ mod rmdir;
 mod steps;
 
 pub use chmod::{ChMod, ChModRow};
+pub use copy::{Copy, CopyRow};
 pub use link::{Link, LinkRow};
 pub use mkdir::{MkDir, MkDirRow};
 pub use remove::{Remove, RemoveRow};

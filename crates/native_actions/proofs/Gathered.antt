@@ -25,12 +25,12 @@ at_or_below place path is = (drop (length place) path, rest_behind place path is
 pub at_or_below_true : (place path : List (List ℕ)) → IsAtOrBelow place path → is_at_or_below place path ≡ true
 at_or_below_true place path (rest, is) = (starts_is bytes_eq-Decides path place (is_at_or_below place path) refl).1 rest is
 
-both_true : (a b : Bool) → (a && b) ≡ true → (a ≡ true) × (b ≡ true)
+pub both_true : (a b : Bool) → (a && b) ≡ true → (a ≡ true) × (b ≡ true)
 both_true true true is = (refl, refl)
 both_true true false is = absurd (let no : ⊥ = cc in no)
 both_true false b is = absurd (let no : ⊥ = cc in no)
 
-contains_filter : (p : Touch → Bool) (xs : List Touch) (x : Touch) → Contains xs x → p x ≡ true → Contains (filter p xs) x
+pub contains_filter : (p : Touch → Bool) (xs : List Touch) (x : Touch) → Contains xs x → p x ≡ true → Contains (filter p xs) x
 contains_filter p [] x (k, below, is) kept = absurd (omega arith)
 contains_filter p (y ∷ xs) x (zero, below, is) kept =
     let here : p y ≡ true = ap p is ∙ kept in
@@ -63,7 +63,7 @@ module _ (nodes : List Touch) (rising : AreRising nodes) where
   pairs : AllPairs (λ (a b : Touch). IsPathBefore a.path b.path) nodes
   pairs = λ i j d less below. rises_far nodes rising i j d less below
 
-  filtered_rise : (p : Touch → Bool) → AreRising (filter p nodes)
+  pub filtered_rise : (p : Touch → Bool) → AreRising (filter p nodes)
   filtered_rise p = λ k d below. AllPairs-filter (λ (a b : Touch). IsPathBefore a.path b.path) p nodes pairs k (k + 1) d (omega arith) below
 
   -- each of them is what stands at its path

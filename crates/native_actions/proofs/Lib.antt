@@ -1,10 +1,12 @@
 pub mod Calls
 pub mod ChMods
+pub mod CleanUps
 pub mod Copied
 pub mod Copies
 pub mod Deep
 pub mod Effects
 pub mod Gathered
+pub mod Leaving
 pub mod Links
 pub mod MkDirs
 pub mod Near

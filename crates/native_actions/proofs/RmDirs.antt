@@ -43,7 +43,7 @@ none_of p [] x none (k, below, is) = absurd (omega arith)
 none_of p (y ∷ xs) x none (zero, below, is) = ap p (sym is) ∙ (either_false (p y) (list_any p xs) none).0
 none_of p (y ∷ xs) x none (suc k, below, is) = none_of p xs x (either_false (p y) (list_any p xs) none).1 (k, omega arith, is)
 
-longer_apart : (path : List (List ℕ)) (name : List ℕ) (rest : List (List ℕ)) → path_eqb (path ++ name ∷ rest) path ≡ false
+pub longer_apart : (path : List (List ℕ)) (name : List ℕ) (rest : List (List ℕ)) → path_eqb (path ++ name ∷ rest) path ≡ false
 longer_apart path name rest = elim (cases_Bool (path_eqb (path ++ name ∷ rest) path)) [
   | inl same ↦ let counted = ap length ((path_eqb-Decides (path ++ name ∷ rest) path).0 same) in absurd (omega (arith, counted, length-append path (name ∷ rest)))
   | inr other ↦ other

@@ -2,6 +2,7 @@
 #![tactic(auto)]
 
 mod chmod;
+mod cleanupcopy;
 mod codes;
 mod copy;
 mod link;
@@ -11,6 +12,7 @@ mod rmdir;
 mod steps;
 
 pub use chmod::{ChMod, ChModRow};
+pub use cleanupcopy::{CleanUpCopy, CleanUpCopyRow};
 pub use copy::{Copy, CopyRow};
 pub use link::{Link, LinkRow};
 pub use mkdir::{MkDir, MkDirRow};

@@ -50,6 +50,8 @@ module _ (ask : Ask) (roots : List UnitName) (problem : Problem) where
       → IsAttempt ask roots (concluded ask.slice.now problem answer)
   attempt_is is valid sound (Model values) model wanted = record {
     members = pick_members ask.catalog.now (truths values) ask.slice.now ask.members;
+    full = truths values;
+    picked_by = refl;
     among = pick_among (truths values) ask.slice.now;
     valid = subst (λ (us : List Package). IsValid us roots ask.env.now) (sym (pick_units ask.catalog.now 1 (truths values) ask.slice.now ask.members.there)) ((valid (truths values)).0 model.satisfies);
     preferred = λ fits.

@@ -2,3 +2,6 @@ mod AttemptLaws
 mod PickLaws
 mod PlanLaws
 mod PreferLaws
+mod RootLaws
+mod SettleLaws
+mod StepLaws

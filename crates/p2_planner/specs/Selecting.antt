@@ -10,6 +10,8 @@ use Rattle.pb_core.specs.AtLeast.{at_least}
 use Rattle.pb_core.specs.Normal.{IsNormalOver}
 use Rattle.pb_core.specs.declared.constraint.Problem.{Problem}
 use Rattle.pb_rows.specs.Members.{selected}
+use Rattle.pb_rows.specs.Normalising.{HasMoreTerms}
+use Rattle.pb_rows.specs.Rows.{rows}
 use Rattle.pb_encode.specs.IsProblem.{IsProblem}
 use Rattle.deriv_check.specs.declared.derivation.Evidence.{Evidence}
 use Rattle.pb_solver.specs.Answers.{IsRefutation, IsSpent}
@@ -21,9 +23,17 @@ AllApply env units = All (λ u. IsTrue (filter_true env u.filter)) units
 abbrev pub picked : {X : Type 0} → (ℕ → Bool) → List X → List X
 picked {X} full xs = map (λ (m : ℕ × X). m.1) (filter (λ (m : ℕ × X). full m.0) (enumerate_from 1 xs))
 
+-- Some of the members are valid for the roots together.
+abbrev pub SomeIsValid : List Package → List UnitName → List EnvPair → Type 0
+SomeIsValid members roots env = (full : ℕ → Bool) × IsValid (selected full members) roots env
+
 -- Whichever of the members are selected, they aren't valid for the roots.
 abbrev pub NoneIsValid : List Package → List UnitName → List EnvPair → Type 0
 NoneIsValid members roots env = (full : ℕ → Bool) → ¬ (IsValid (selected full members) roots env)
+
+-- The problem to select members for the roots has over 4,000,000 terms.
+abbrev pub IsTooLarge : List Package → List UnitName → List EnvPair → Type 0
+IsTooLarge members roots env = HasMoreTerms 4000000 (rows members roots env)
 
 -- The problem to select members for the roots, in the form that a checker of derivations asks for.
 pub record IsAskedFor (members : List Package) (roots : List UnitName) (env : List EnvPair) (problem : Problem) : Type 0 where

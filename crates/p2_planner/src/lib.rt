@@ -5,9 +5,12 @@ mod ask;
 mod attempt;
 mod choosing;
 mod fault;
+pub mod laws;
 mod planned;
 mod planning;
 mod preferring;
+mod roots;
+mod settling;
 
 pub use fault::PlanFault;
 pub use planned::{LeftOut, Planned};

@@ -10,9 +10,9 @@ use p2_planner::{LeftOut, PlanFault, Planned, plan};
 use std::alloc::Global;
 use suite_row::Row;
 
-/// The plan. None where the budget isn't one, or there are optional roots.
+/// The plan. None where the budget isn't one.
 fn ask(scene: &Scene, question: &Question) -> Option<Result<Planned, PlanFault>> {
-    if question.budget == 0 || question.budget > 50_000 || !question.optional.is_empty() {
+    if question.budget == 0 || question.budget > 50_000 {
         return None;
     }
     Some(plan(

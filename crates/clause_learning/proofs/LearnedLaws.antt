@@ -25,7 +25,7 @@ use Rattle.pb_trail.proofs.AlongLaws.{no_entry, before-Includes, entry_value, le
 use Rattle.clause_learning.specs.Asserting.{IsAsserting, IsAssertingBy}
 use Rattle.clause_learning.specs.Collected.{IsDenied, IsCollected, floor_of}
 use Rattle.clause_learning.specs.Explained.{Agrees, IsExplained, IsCut}
-use Rattle.clause_learning.specs.Marks.{is_marked, place_in, MarkedEntry, HasMarks, HaveMarks}
+use Rattle.clause_learning.specs.Marks.{is_marked, place_in, MarkedEntry, HasMarks, KeepsFrom, HaveMarks}
 use Rattle.clause_learning.specs.declared.cut.Cut.{Cut}
 use Rattle.clause_learning.proofs.HintLaws.{StaysFalse, reachable_falls, forces_again, with_forced-keeps, length-with_forced, conflicts_now, conflicts_later, hinted_push, rest_no_conflict}
 use Rattle.clause_learning.proofs.MarkLaws.{before_at, before_included, values_all}
@@ -266,6 +266,12 @@ unique trail cut start good is within bottom done rest = ⊎_elim above below (c
                     let stop = is.marks.stop_first entry.place no_entry (omega (arith, bottom, ge)) entry.below seen_at in
                     let at : entry.place ≡ cut.top - 1 = omega (arith, stop, done, entry.below) in
                     absurd (false≢true (sym e ∙ subst (λ (k : ℕ). is_marked cut.seen.items (get_or trail.entries.items k no_entry).lit.variable ≡ true) at seen_at))
+
+pub unique_kept : (trail : Trail) (before after : Cut) (start : ℕ) → HasMarks trail before → KeepsFrom trail start before after → IsUnique trail before start → IsUnique trail after start
+unique_kept trail before after start marks keeps one = record {
+  some = omega (arith, one.some, keeps.top);
+  marked = subst (λ (k : ℕ). is_marked after.seen.items (get_or trail.entries.items (k - 1) no_entry).lit.variable ≡ true) (sym keeps.top) (keeps.marks (before.top - 1) no_entry (omega (arith, one.some)) (omega (arith, one.some, marks.within)) one.marked);
+}
 
 complement_open : (values : List (Option Bool)) (a b : Lit) → a ≡ complement b → is_open values b ≡ true → is_open values a ≡ true
 complement_open values a b e h = ap (λ (l : Lit). is_open values l) e ∙ h

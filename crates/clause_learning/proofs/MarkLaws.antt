@@ -12,7 +12,7 @@ use Rattle.pb_trail.specs.Trail.{IsTrail, AreSteps}
 use Rattle.pb_trail.specs.declared.trail.Entry.{Entry}
 use Rattle.pb_trail.specs.declared.trail.Trail.{Trail}
 use Rattle.pb_trail.proofs.AlongLaws.{no_entry, before_all, before-Includes, value_entry, entries_apart, IsEntryOf, length-along}
-use Rattle.clause_learning.specs.Marks.{is_marked, place_in, ArePlaces, MarkedEntry, HasMarks, KeepsMarks, HaveMarks}
+use Rattle.clause_learning.specs.Marks.{is_marked, place_in, ArePlaces, MarkedEntry, HasMarks, KeepsMarks, AddsBelow, KeepsOthers, KeepsFrom, HaveMarks}
 use Rattle.clause_learning.specs.declared.cut.Cut.{Cut}
 
 -- the values of a trail before a place
@@ -44,11 +44,12 @@ pub entry_place : (es : List Entry) (places : List ℕ) (m v : ℕ) (b : Bool) �
 entry_place es places m v b are h found =
     ap (λ (l : Lit). place_in places l.variable) (sym (found.is no_entry)) ∙ are found.place no_entry (omega (arith, found.within))
 
-pub marked_now : (trail : Trail) (cut : Cut) (lit : Lit) → IsTrail trail → HasMarks trail cut → is_false (before_at trail cut.top) lit ≡ true → (place_in cut.places.items lit.variable < cut.top) × (is_false trail.kept.values lit ≡ true)
-marked_now trail cut lit good marks e =
-    let found = false_entry trail good cut.top marks.within lit e in
-    let at = entry_place trail.entries.items cut.places.items cut.top lit.variable (not lit.positive) marks.are_places marks.within found in
-    (omega (arith, at, found.within), is_false-Includes (before_at trail cut.top) trail.kept.values lit (before_included trail good cut.top marks.within) e)
+pub marked_now : (trail : Trail) (cut : Cut) (limit : ℕ) (lit : Lit) → IsTrail trail → HasMarks trail cut → limit ≤ cut.top → is_false (before_at trail limit) lit ≡ true → (place_in cut.places.items lit.variable < limit) × (is_false trail.kept.values lit ≡ true)
+marked_now trail cut limit lit good marks most e =
+    let within : limit ≤ length trail.entries.items = omega (arith, most, marks.within) in
+    let found = false_entry trail good limit within lit e in
+    let at = entry_place trail.entries.items cut.places.items limit lit.variable (not lit.positive) marks.are_places within found in
+    (omega (arith, at, found.within), is_false-Includes (before_at trail limit) trail.kept.values lit (before_included trail good limit within) e)
 
 pub HasMarks-marked : (trail : Trail) (before after : Cut) (lit : Lit) → IsTrail trail → HasMarks trail before → after.places.items ≡ before.places.items → after.seen.items ≡ set before.seen.items lit.variable true → after.top ≡ before.top → after.bottom ≡ before.bottom → place_in before.places.items lit.variable < before.top → is_false trail.kept.values lit ≡ true → after.stop ≤ before.stop → (before.bottom ≤ place_in before.places.items lit.variable + 1 → after.stop ≤ place_in before.places.items lit.variable + 1) → before.bottom ≤ after.stop → HasMarks trail after
 HasMarks-marked trail before after lit good marks places seen top bottom below fails lower here ordered = record {
@@ -98,6 +99,53 @@ KeepsMarks-marked before after v seen hints top bottom stop = record {
   top = top;
   bottom = bottom;
   stop = stop;
+}
+
+pub AddsBelow-itself : (limit : ℕ) (cut : Cut) → AddsBelow limit cut cut
+AddsBelow-itself limit cut = record { places = refl; marks = λ v h m. m; stop = λ h. refl }
+
+pub AddsBelow-through : (limit : ℕ) (a b c : Cut) → b.bottom ≡ a.bottom → AddsBelow limit a b → AddsBelow limit b c → AddsBelow limit a c
+AddsBelow-through limit a b c bottom e f = record {
+  places = f.places ∙ e.places;
+  marks = λ v h m. e.marks v h (f.marks v (subst (λ (ps : List ℕ). limit ≤ place_in ps v) (sym e.places) h) m);
+  stop = λ h. f.stop (omega (arith, h, bottom)) ∙ e.stop h;
+}
+
+pub AddsBelow-marked : (limit : ℕ) (before after : Cut) (w : ℕ) → after.places.items ≡ before.places.items → after.seen.items ≡ set before.seen.items w true → place_in before.places.items w < limit → (limit < before.bottom → after.stop ≡ before.stop) → AddsBelow limit before after
+AddsBelow-marked limit before after w places seen below stop = record { places = places; marks = old; stop = stop }
+  where
+    old : (v : ℕ) → limit ≤ place_in before.places.items v → is_marked after.seen.items v ≡ true → is_marked before.seen.items v ≡ true
+    old v h m = ⊎_elim (λ same. sym same ∙ (ap (λ (xs : List Bool). get_or xs v false) (sym seen) ∙ m)) (λ here. let at : place_in before.places.items w ≡ place_in before.places.items v = ap (place_in before.places.items) here.0 in absurd (omega (arith, at, below, h))) (get_or-set_cases before.seen.items w v true false)
+
+pub KeepsFrom-itself : (trail : Trail) (first : ℕ) (cut : Cut) → KeepsFrom trail first cut cut
+KeepsFrom-itself trail first cut = record { marks = λ k d low h m. m; top = refl; bottom = refl; stop = refl }
+
+pub KeepsFrom-through : (trail : Trail) (high low : ℕ) (a b c : Cut) → low ≤ high → KeepsFrom trail high a b → KeepsFrom trail low b c → KeepsFrom trail high a c
+KeepsFrom-through trail high low a b c lower e f = record {
+  marks = λ k d above h m. f.marks k d (omega (arith, lower, above)) h (e.marks k d above h m);
+  top = f.top ∙ e.top;
+  bottom = f.bottom ∙ e.bottom;
+  stop = f.stop ∙ e.stop;
+}
+
+pub KeepsFrom-others : (trail : Trail) (place : ℕ) (before after : Cut) → IsTrail trail → place < before.bottom → KeepsOthers trail place before after → KeepsFrom trail (place + 1) before after
+KeepsFrom-others trail place before after good early keeps = record {
+  marks = λ k d low h m. keeps.others (get_or trail.entries.items k d).lit.variable d (λ e. entries_apart trail.kept.constraints (length trail.kept.values) trail.entries.items good.are_steps place k d (omega (arith, low)) h (sym e)) m;
+  top = keeps.top;
+  bottom = keeps.bottom;
+  stop = keeps.same_stop early;
+}
+
+-- some marks went
+pub HasMarks-fewer : (trail : Trail) (before after : Cut) → HasMarks trail before → after.places.items ≡ before.places.items → length after.seen.items ≡ length before.seen.items → ((v : ℕ) → is_marked after.seen.items v ≡ true → is_marked before.seen.items v ≡ true) → after.top ≡ before.top → after.bottom ≡ before.bottom → after.stop ≡ before.stop → HasMarks trail after
+HasMarks-fewer trail before after marks places size seen top bottom stop = record {
+  all_places = ap length places ∙ marks.all_places;
+  are_places = λ k d h. ap (λ (xs : List ℕ). place_in xs (get_or trail.entries.items k d).lit.variable) places ∙ marks.are_places k d h;
+  all_marks = size ∙ marks.all_marks;
+  within = omega (arith, top, marks.within);
+  marked_below = λ v m. let entry = marks.marked_below v (seen v m) in record { place = entry.place; below = omega (arith, entry.below, top); is = entry.is };
+  stop_first = λ k d low high m. omega (arith, stop, marks.stop_first k d (omega (arith, bottom, low)) (omega (arith, top, high)) (seen (get_or trail.entries.items k d).lit.variable m));
+  ordered = omega (arith, bottom, stop, marks.ordered);
 }
 
 pub marked_here : (seen : List Bool) (v : ℕ) → v < length seen → is_marked (set seen v true) v ≡ true

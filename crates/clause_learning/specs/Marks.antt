@@ -1,5 +1,5 @@
 -- Marked variables of a trail.
-use Rattle.std.specs.Prelude.{◌≡◌, ℕ, ◌+◌, ◌<◌, ◌≤◌, Bool, false, IsTrue, List, length, slice_index_or}
+use Rattle.std.specs.Prelude.{◌≡◌, ◌≢◌, ℕ, ◌+◌, ◌<◌, ◌≤◌, Bool, false, IsTrue, List, length, slice_index_or}
 use Rattle.pb_core.specs.Values.{is_false}
 use Rattle.pb_core.specs.declared.literal.Term.{Term}
 use Rattle.pb_trail.specs.Along.{values_before}
@@ -40,6 +40,28 @@ pub record KeepsMarks (before after : Cut) : Type 0 where
   pub top : after.top ≡ before.top
   pub bottom : after.bottom ≡ before.bottom
   pub stop : after.stop ≤ before.stop
+
+-- The marks that were added are of entries before a limit.
+pub record AddsBelow (limit : ℕ) (before after : Cut) : Type 0 where
+  pub places : after.places.items ≡ before.places.items
+  pub marks : (v : ℕ) → limit ≤ place_in before.places.items v → IsTrue (is_marked after.seen.items v) → IsTrue (is_marked before.seen.items v)
+  pub stop : limit < before.bottom → after.stop ≡ before.stop
+
+-- Of the marks at most that of the entry at a place is taken away, and it is.
+pub record KeepsOthers (trail : Trail) (place : ℕ) (before after : Cut) : Type 0 where
+  pub others : (v : ℕ) (d : Entry) → v ≢ (slice_index_or trail.entries.items place d).lit.variable → IsTrue (is_marked before.seen.items v) → IsTrue (is_marked after.seen.items v)
+  pub cleared : (d : Entry) → ¬ (IsTrue (is_marked after.seen.items (slice_index_or trail.entries.items place d).lit.variable))
+  pub top : after.top ≡ before.top
+  pub bottom : after.bottom ≡ before.bottom
+  pub stop : after.stop ≤ before.stop
+  pub same_stop : place < before.bottom → after.stop ≡ before.stop
+
+-- The marks of entries from a place on stay.
+pub record KeepsFrom (trail : Trail) (first : ℕ) (before after : Cut) : Type 0 where
+  pub marks : (k : ℕ) (d : Entry) → first ≤ k → k < length trail.entries.items → IsTrue (is_marked before.seen.items (slice_index_or trail.entries.items k d).lit.variable) → IsTrue (is_marked after.seen.items (slice_index_or trail.entries.items k d).lit.variable)
+  pub top : after.top ≡ before.top
+  pub bottom : after.bottom ≡ before.bottom
+  pub stop : after.stop ≡ before.stop
 
 -- of the first terms, each literal that was false before the top is marked
 abbrev pub HaveMarks : Trail → ℕ → List Bool → List Term → ℕ → Type 0

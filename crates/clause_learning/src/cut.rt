@@ -5,8 +5,8 @@ ghost use Rattle.pb_core.specs.Values.{is_false};
 ghost use Rattle.deriv_check.specs.LineRule.{HasHints};
 ghost use Rattle.pb_trail.specs.Along.{values_before};
 ghost use Rattle.pb_trail.specs.Trail.{IsTrail};
-ghost use Rattle.clause_learning.specs.Marks.{is_marked, ArePlaces, HasMarks, KeepsMarks, HaveMarks};
-ghost use Rattle.clause_learning.specs.Reasons.{ReasonsFrom};
+ghost use Rattle.clause_learning.specs.Marks.{is_marked, ArePlaces, HasMarks, KeepsMarks, AddsBelow, KeepsOthers, KeepsFrom, HaveMarks};
+ghost use Rattle.clause_learning.specs.Reasons.{IsForced, ReasonsFrom};
 ghost use Rattle.clause_learning.specs.Explained.{IsExplained, IsCut};
 ghost use Rattle.clause_learning.specs.Collected.{IsCollected};
 
@@ -49,6 +49,7 @@ fn places(alloc: Global, trail: &Trail) -> Result<Vec<usize>, NoMemory>
 fn lowered(stop: usize, bottom: usize, lower: usize) -> usize
     ensures low { result ≤ stop }
     ensures here { bottom ≤ lower → result ≤ lower }
+    ensures same { lower < bottom → result ≡ stop }
     ensures above { bottom ≤ stop → bottom ≤ result }
 {
     if bottom <= lower {
@@ -84,36 +85,40 @@ impl Cut {
         })
     }
 
-    /// Marks a literal's variable, where the literal was false before the top.
-    fn mark(&mut self, trail: &Trail, lit: Lit)
+    /// Marks a literal's variable, where the literal was false before a limit.
+    fn mark(&mut self, trail: &Trail, lit: Lit, limit: usize)
         requires good { IsTrail trail.now }
         requires marks { HasMarks trail.now self.old }
+        requires limit { limit ≤ self.old.top }
         requires from_one { 0 < lit.variable }
         requires within { lit.variable ≤ length trail.now.kept.values }
         ensures marks { HasMarks trail.now self.new }
         ensures keeps { KeepsMarks self.old self.new }
-        ensures marked { IsTrue (is_false (values_before (length trail.now.kept.values) trail.now.entries.items self.old.top) lit) → IsTrue (is_marked self.new.seen.items lit.variable) }
+        ensures below { AddsBelow limit self.old self.new }
+        ensures marked { IsTrue (is_false (values_before (length trail.now.kept.values) trail.now.entries.items limit) lit) → IsTrue (is_marked self.new.seen.items lit.variable) }
     {
         let place = self.places[lit.variable as usize];
-        if place >= self.top || !trail.kept.values().is_false(lit) {
+        if place >= limit || !trail.kept.values().is_false(lit) {
             return;
         }
         self.seen[lit.variable as usize] = true;
         self.stop = lowered(self.stop, self.bottom, place + 1);
     }
 
-    /// Marks each literal of a constraint that was false before the top.
-    fn mark_terms(&mut self, trail: &Trail, number: u32)
+    /// Marks each literal of a constraint that was false before a limit.
+    fn mark_terms(&mut self, trail: &Trail, number: u32, limit: usize)
         requires good { IsTrail trail.now }
         requires marks { HasMarks trail.now self.old }
+        requires limit { limit ≤ self.old.top }
         requires from_one { 0 < number }
         requires within { number ≤ length trail.now.kept.constraints }
         ensures marks { HasMarks trail.now self.new }
         ensures keeps { KeepsMarks self.old self.new }
-        ensures marked { HaveMarks trail.now self.old.top self.new.seen.items (constraint_at trail.now.kept.constraints number).terms (length (constraint_at trail.now.kept.constraints number).terms) }
+        ensures below { AddsBelow limit self.old self.new }
+        ensures marked { HaveMarks trail.now limit self.new.seen.items (constraint_at trail.now.kept.constraints number).terms (length (constraint_at trail.now.kept.constraints number).terms) }
     {
         for term in trail.kept.terms(number) {
-            self.mark(trail, term.lit);
+            self.mark(trail, term.lit, limit);
         }
     }
 
@@ -132,27 +137,24 @@ impl Cut {
         ensures top { self.new.top ≡ self.old.top }
     {
         self.hints.push(conflict)?;
-        self.mark_terms(trail, conflict);
+        self.mark_terms(trail, conflict, self.top);
         Ok(())
     }
 
-    /// Takes up the reason of the entry at the top, whose mark goes.
+    /// Takes up the reason of a forced entry, in the place of its mark.
     fn resolve(&mut self, trail: &Trail, place: usize) -> Result<(), NoMemory>
         requires good { IsTrail trail.now }
         requires cut { IsCut trail.now self.old }
-        requires top { place + 1 ≡ self.old.top }
-        requires above { self.old.stop < self.old.top }
-        requires reason { ReasonsFrom trail.now self.old.bottom }
+        requires below { place < self.old.top }
+        requires forced { IsForced trail.now place }
         ensures cut { OnOk result (IsCut trail.now self.new) }
-        ensures top { OnOk result (self.new.top ≡ place) }
+        ensures keeps { OnOk result (KeepsOthers trail.now place self.old self.new) }
         ensures bottom { self.new.bottom ≡ self.old.bottom }
-        ensures stop { OnOk result (self.new.stop ≤ self.old.stop) }
     {
         let entry = trail.entries[place];
         self.hints.push(entry.reason)?;
         self.seen[entry.lit.variable as usize] = false;
-        self.top = place;
-        self.mark_terms(trail, entry.reason);
+        self.mark_terms(trail, entry.reason, place);
         Ok(())
     }
 
@@ -174,6 +176,7 @@ impl Cut {
         }
         met.push(trail.entries[place].lit.variable)?;
         self.resolve(trail, place)?;
+        self.top = place;
         Ok(())
     }
 
@@ -218,6 +221,59 @@ impl Cut {
         cut.begin(trail, conflict)?;
         cut.run(trail, met)?;
         Ok(cut)
+    }
+
+    /// Whether each literal of an entry's reason that was false before it is marked.
+    fn is_covered(&self, trail: &Trail, place: usize) -> bool
+        requires good { IsTrail trail.now }
+        requires marks { HasMarks trail.now self.now }
+        requires within { place < length trail.now.entries.items }
+        requires forced { IsForced trail.now place }
+    {
+        for term in trail.kept.terms(trail.entries[place].reason) {
+            let variable = term.lit.variable as usize;
+            let earlier = self.places[variable] < place && trail.kept.values().is_false(term.lit);
+            if earlier && !self.seen[variable] {
+                return false;
+            }
+        }
+        true
+    }
+
+    /// Takes a mark away whose entry follows from the other marks.
+    fn shorten_at(&mut self, trail: &Trail, place: usize) -> Result<(), NoMemory>
+        requires good { IsTrail trail.now }
+        requires cut { IsCut trail.now self.old }
+        requires below { place < self.old.top }
+        requires early { place < self.old.bottom }
+        ensures cut { OnOk result (IsCut trail.now self.new) }
+        ensures keeps { OnOk result (KeepsFrom trail.now (place + 1) self.old self.new) }
+    {
+        let entry = trail.entries[place];
+        if entry.reason == 0 || !self.seen[entry.lit.variable as usize] {
+            return Ok(());
+        }
+        if !self.is_covered(trail, place) {
+            return Ok(());
+        }
+        self.resolve(trail, place)?;
+        Ok(())
+    }
+
+    /// Takes the marks of entries before a place away that follow from other marks. It goes down, so that a mark still
+    /// stands when an entry behind it is looked at.
+    pub(crate) fn shorten(&mut self, trail: &Trail, before: usize) -> Result<(), NoMemory>
+        requires good { IsTrail trail.now }
+        requires cut { IsCut trail.now self.old }
+        requires below { before ≤ self.old.top }
+        requires early { before ≤ self.old.bottom }
+        ensures cut { OnOk result (IsCut trail.now self.new) }
+        ensures keeps { OnOk result (KeepsFrom trail.now before self.old self.new) }
+    {
+        for place in (0..before).rev() {
+            self.shorten_at(trail, place)?;
+        }
+        Ok(())
     }
 
     /// The complements of the marked literals, the latest first.

@@ -59,8 +59,9 @@ fn floor_of(places: &[usize], lits: &[Lit]) -> usize
 }
 
 /// What a conflict behind a decision teaches. The clause's first literal is the complement of the first unique
-/// implication point of the entries from `start` on; its others were false before. Costs the entries, and the terms of the
-/// constraints that are taken up.
+/// implication point of the entries from `start` on; its others were false before. Literals that follow from the rest by their
+/// reasons are left out, which only makes the clause shorter. Costs the entries, and the terms of the constraints that
+/// are taken up and of the reasons of the literals that a cut alone would leave.
 pub fn learn(alloc: Global, trail: &Trail, start: usize, conflict: u32) -> Result<Learned, NoMemory>
     requires good { IsTrail trail.now }
     requires from_one { 0 < conflict }
@@ -74,7 +75,7 @@ pub fn learn(alloc: Global, trail: &Trail, start: usize, conflict: u32) -> Resul
     ensures asserting { IfOk result (λ learned. IsAsserting trail.now start learned.floor learned.line.clause) }
 {
     let mut met = List::new(alloc);
-    let cut = Cut::of(
+    let mut cut = Cut::of(
         alloc,
         trail,
         conflict,
@@ -82,6 +83,7 @@ pub fn learn(alloc: Global, trail: &Trail, start: usize, conflict: u32) -> Resul
         trail.entries.len(),
         &mut met,
     )?;
+    cut.shorten(trail, start)?;
     let clause = cut.clause(alloc, trail)?;
     let floor = floor_of(cut.places.as_slice(), clause.items());
     add_variables(&mut met, clause.items())?;

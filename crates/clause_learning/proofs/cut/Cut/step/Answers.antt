@@ -1,4 +1,4 @@
-use Rattle.std.proofs.Common.{◌≡◌, ◌<◌, ◌+◌, ◌-◌, false, length, get_or, refl, sym, ap, ◌∙◌, arith}
+use Rattle.std.proofs.Common.{◌≡◌, ◌≢◌, ℕ, ◌<◌, ◌+◌, ◌-◌, true, false, length, get_or, refl, sym, ap, subst, ◌∙◌, arith}
 use Rattle.std.proofs.lemmas.List.{get_or_default}
 use Rattle.pb_trail.specs.declared.trail.Entry.{Entry}
 use Rattle.pb_trail.proofs.AlongLaws.{no_entry}
@@ -20,4 +20,14 @@ returns-then-not-index-clause-cut c =
       marks = HasMarks-down c.args.trail.now c.args.self.now _ (c.args.self.now.top - 1) c.requires.good c.requires.cut.marks one refl refl (λ v m. let gone = unmarked_already c.args.self.now.seen.items c.index.result.now.lit.variable v none m in (gone.0, λ s. gone.1 (sym variable ∙ s))) refl refl refl;
       has_hints = c.requires.cut.has_hints;
       explained = c.requires.cut.explained;
+    }
+
+pub returns-clause-cut : goal.returns-clause-cut
+returns-clause-cut c =
+    let one : c.args.self.now.top - 1 + 1 ≡ c.resolve.new.self.top = omega (arith, c.requires.above, c.in_ok-resolve.ensures.keeps.top) in
+    let cleared : (v : ℕ) → is_marked c.resolve.new.self.seen.items v ≡ true → (is_marked c.resolve.new.self.seen.items v ≡ true) × ((get_or c.args.trail.now.entries.items (c.args.self.now.top - 1) no_entry).lit.variable ≢ v) = λ v m. (m, λ e. c.in_ok-resolve.ensures.keeps.cleared no_entry (subst (λ (w : ℕ). is_marked c.resolve.new.self.seen.items w ≡ true) (sym e) m)) in
+    record {
+      marks = HasMarks-down c.args.trail.now c.resolve.new.self _ (c.args.self.now.top - 1) c.requires.good c.in_ok-resolve.ensures.cut.marks one refl refl cleared refl refl refl;
+      has_hints = c.in_ok-resolve.ensures.cut.has_hints;
+      explained = c.in_ok-resolve.ensures.cut.explained;
     }

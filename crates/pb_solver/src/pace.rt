@@ -1,5 +1,5 @@
 /// How many conflicts the shortest run takes.
-const UNIT: u64 = 100;
+const UNIT: u64 = 32;
 
 /// When to begin again from no decision: after runs of conflicts whose lengths are those of Luby's series, 1, 1, 2, 1, 1,
 /// 2, 4, .., times a unit.

@@ -4,7 +4,7 @@ use osgi_version::NoMemory;
 use std::alloc::Global;
 
 /// How much of its own size the gain grows by at each conflict: one part in so many.
-const GROWTH: u64 = 16;
+const GROWTH: u64 = 64;
 
 /// Above this gain all activities are scaled down.
 const MOST_GAIN: u64 = 1 << 50;

@@ -4,3 +4,4 @@ pub mod Lookups
 pub mod Params
 pub mod Tested
 pub mod Undoing
+pub mod Unders

@@ -1,4 +1,3 @@
-pub mod Calls
 pub mod Effect
 pub mod Places
 pub mod Rows

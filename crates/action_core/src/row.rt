@@ -1,6 +1,6 @@
 ghost use Rattle.std.specs.Prelude.{◌≡◌, ◌≢◌, ℕ, IfOk, IfErr};
 ghost use Rattle.folder_core.specs.Folder.{Map, IsFormed};
-ghost use Rattle.action_core.specs.Calls.{IsCall};
+ghost use Rattle.instr_parser.specs.Given.{IsCall};
 ghost use Rattle.action_core.specs.Effect.{HasEffect, StandsFor};
 ghost use Rattle.action_core.specs.Standing.{IsShape, site_of};
 ghost use Rattle.action_core.specs.Steps.{CanPerform};

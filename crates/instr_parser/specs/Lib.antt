@@ -1,4 +1,5 @@
 pub mod Calls
+pub mod Given
 pub mod Naming
 pub mod Opened
 pub mod Params

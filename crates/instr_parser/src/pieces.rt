@@ -1,10 +1,11 @@
 //! The calls of a text, piece by piece.
 
-ghost use Rattle.std.specs.Prelude.{◌≡◌, ◌≤◌, ◌+◌, ◌^◌, length};
+ghost use Rattle.std.specs.Prelude.{◌≡◌, ◌≤◌, ◌+◌, ◌^◌, length, All, IfOk};
 ghost use Rattle.std.specs.Option.{option_map};
 ghost use Rattle.instr_text.specs.Cut.{seen, sizes};
 ghost use Rattle.instr_text.specs.Gives.{Gives};
 ghost use Rattle.instr_text.specs.Piece.{parts_seen};
+ghost use Rattle.instr_parser.specs.Given.{IsCall};
 ghost use Rattle.instr_parser.specs.Calls.{call_of, call_at, piece_call, calls_from, calls_of};
 
 use crate::call::Call;
@@ -75,7 +76,9 @@ pub fn calls(
     imports: &[u8],
     touchpoint: Option<&[u8]>,
 ) -> Result<List<Call>, InstrRefusal>
-    ensures { Gives (λ calls. calls) result (calls_of text.now imports.now (option_map (λ id. id.now) touchpoint.entry)) }
+    ensures read { Gives (λ calls. calls) result (calls_of text.now imports.now (option_map (λ id. id.now) touchpoint.entry)) }
+    // Each has the parameters that its kind takes, with values in their forms.
+    ensures given { IfOk result (λ calls. All IsCall calls) }
 {
     let plain = plain_kinds(alloc, imports, touchpoint)?;
     let pieces = split_bytes(alloc, text, b';')?;

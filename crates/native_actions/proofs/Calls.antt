@@ -7,7 +7,7 @@ use Rattle.instr_parser.specs.declared.call.Call.{Call}
 use Rattle.instr_parser.specs.declared.call.Param.{Param}
 use Rattle.instr_parser.specs.declared.call.Value.{Value}
 use Rattle.instr_parser.specs.declared.call.Value.TheVariants.{Place, Names, Plain, Flag, Mode}
-use Rattle.action_core.specs.Calls.{Form, APlace, ASource, SomeNames, AText, AMode, HasForm, Slot, needed, Fill, IsPlace, IsSource, IsPlain, AreNames, IsMode}
+use Rattle.instr_parser.specs.Given.{Form, APlace, ASource, SomeNames, AText, AMode, HasForm, Slot, needed, Fill, IsPlace, IsSource, IsPlain, AreNames, IsMode}
 use Rattle.action_core.specs.Places.{Site, base_path, value_in, value_of, place_or_root, names_or_none, mode_or_zero, text_or_none, place_at, names_at, mode_at, text_at, first_place, place_list, places_of}
 
 abbrev pub param : ℕ → Value → Param

@@ -16,7 +16,7 @@ use Rattle.native_actions.proofs.MkDirs.{passed_all}
 use Rattle.native_actions.proofs.Near.{same_at, same_way}
 use Rattle.native_actions.proofs.Settings.{first_passed, way_passed, nothing_below, inside, not_root, can_step}
 use Rattle.instr_parser.specs.declared.call.Call.{Call}
-use Rattle.action_core.specs.Calls.{IsCall, Fill, slots_of}
+use Rattle.instr_parser.specs.Given.{IsCall, Fill, slots_of}
 use Rattle.action_core.specs.Places.{place_at, names_at, mode_at}
 use Rattle.action_core.specs.Standing.{IsShape, map_of, site_of}
 use Rattle.action_core.specs.declared.shape.Shape.{Shape}

@@ -11,7 +11,7 @@ use Rattle.folder_core.specs.Path.{IsBelow, path_eqb}
 use Rattle.folder_core.specs.declared.node.Touch.{Touch}
 use Rattle.folder_core.proofs.Maps.{path_eqb-Decides, changed_here, changed_other, IsFormed-set_at}
 use Rattle.instr_parser.specs.declared.call.Call.{Call}
-use Rattle.action_core.specs.Calls.{IsCall, Fill, slots_of}
+use Rattle.instr_parser.specs.Given.{IsCall, Fill, slots_of}
 use Rattle.action_core.specs.Places.{place_at}
 use Rattle.action_core.specs.Rows.{all_but, can_go, cleaned, cleanupcopy, has_child, is_at}
 use Rattle.action_core.specs.Standing.{IsInstall, IsShape, IsUnder, IsAtOrBelow, is_at_or_below, site_of, under_in}

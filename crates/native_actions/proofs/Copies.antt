@@ -18,7 +18,7 @@ use Rattle.instr_parser.specs.declared.call.Base.{Base}
 use Rattle.instr_parser.specs.declared.call.Base.TheVariants.{Install, Artifact}
 use Rattle.instr_parser.specs.declared.call.Call.{Call}
 use Rattle.instr_parser.specs.declared.call.Value.TheVariants.{Place}
-use Rattle.action_core.specs.Calls.{IsCall, IsSource, Fill, slots_of, optional, AFlag}
+use Rattle.instr_parser.specs.Given.{IsCall, IsSource, Fill, slots_of, optional, AFlag}
 use Rattle.action_core.specs.Places.{Site, base_path, place_at, flag_at}
 use Rattle.action_core.specs.Rows.{copy, copy_source, copied_set, moved, or_refused, unless, into_itself, too_deep_from, link_as_source, file_target}
 use Rattle.action_core.specs.Standing.{IsInstall, IsPooled, IsShape, IsUnder, SameNear, map_of, site_of, under_in}

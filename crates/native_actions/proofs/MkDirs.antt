@@ -15,7 +15,7 @@ use Rattle.action_core.specs.declared.step.Step.TheVariants.{Set}
 use Rattle.native_actions.proofs.Near.{same_at, same_common}
 use Rattle.native_actions.proofs.Settings.{first_passed, way_passed, common_way_passed, common_parent, nothing_below, inside, can_step}
 use Rattle.instr_parser.specs.declared.call.Call.{Call}
-use Rattle.action_core.specs.Calls.{IsCall, Fill, slots_of}
+use Rattle.instr_parser.specs.Given.{IsCall, Fill, slots_of}
 use Rattle.action_core.specs.Places.{place_at}
 use Rattle.action_core.specs.Standing.{IsShape, map_of, site_of}
 use Rattle.action_core.specs.declared.shape.Shape.{Shape}

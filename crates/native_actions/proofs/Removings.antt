@@ -31,7 +31,7 @@ use Rattle.native_actions.proofs.Near.{same_way}
 use Rattle.native_actions.proofs.RmDirs.{some_or_none}
 use Rattle.native_actions.proofs.Settings.{way_passed, inside, not_root, can_step}
 use Rattle.instr_parser.specs.declared.call.Call.{Call}
-use Rattle.action_core.specs.Calls.{IsCall, Fill, slots_of}
+use Rattle.instr_parser.specs.Given.{IsCall, Fill, slots_of}
 use Rattle.action_core.specs.Places.{place_at}
 use Rattle.action_core.specs.Standing.{IsShape, map_of, site_of, under_in}
 use Rattle.action_core.specs.declared.shape.Shape.{Shape}

@@ -33,14 +33,14 @@ now_old change s began none = subst (λ (n : ℕ). Undoes began.entries n s.now 
 settles : (change : Change) (s t u : Told) → change.left ≡ 0 → IsOpen change s → IsImage s s.now → Synced s t → IsClosed t u → SettlesRestored s u
 settles change s t u none began image call closed restored is =
     let old : SameOutside s.now restored = λ path outside.
-    now_old change s began none path outside ∙ restored_one s.now began.old restored (kept_restores began.entries began.old s s.now began.kept image) is path outside in
+    now_old change s began none path outside ∙ restored_one s.now began.old restored (kept_restores began.entries began.behind began.old s s.now began.kept image) is path outside in
     settled_same s.now restored u old (settled_closed s t u call.0 (record { synced = call.1.0 ∙ sym call.0; settled = call.1.1 }) closed)
 
 but_old : (change : Change) (s : Told) (m : Map) → change.left ≡ 0 → IsOpen change s → IsImage s s.now → IsButGate s.now m → RestoresLike s.now m
 but_old change s m none began image but =
-    restores_alike s.now m began.old (kept_restores began.entries began.old s s.now began.kept image)
+    restores_alike s.now m began.old (kept_restores began.entries began.behind began.old s s.now began.kept image)
     (⊎_elim
-    (λ opens. but_gate_old began.entries began.old s s.now m began.kept image but opens)
+    (λ opens. but_gate_old began.entries began.behind began.old s s.now m began.kept image but opens)
     (λ closed. restored_same m s.now began.old (same_outside_sym s.now began.old (now_old change s began none)) (but_gate_new s.now m but closed))
     (is_file_or_not gate_text (m gate_path)))
     (but_gate_foreign s.now m but)
@@ -80,7 +80,7 @@ module _ {D : Type 0} (told : D → Option Told) (left_since : D → ℕ → Map
   end_old C call leaves = on_told (told old) _ (λ s e.
       let here : IsOpen change s = at_told (told old) s (IsOpen change) e began in
       let now : IsImage s s.now = at_told (told old) s (λ t. IsImage t t.now) e image in
-      (more told left_since old mid new (λ t. AreKept here.entries here.old t × (t.now ≡ s.now)) (λ t. Unit {0}) (RestoresLike s.now) C (λ t. IsButGate t.now)
+      (more told left_since old mid new (λ t. AreKept here.entries here.behind here.old t × (t.now ≡ s.now)) (λ t. Unit {0}) (RestoresLike s.now) C (λ t. IsButGate t.now)
       (mid_ran told left_since change old began image only mid stays synced settled time s e here now)
       call leaves (λ t u same so. tt)
       (λ t m same but. but_old change s m none here now (subst (λ (x : Map). IsButGate x m) same.1 but))).leaves)

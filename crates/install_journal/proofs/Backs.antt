@@ -45,25 +45,26 @@ module _ (change : Change) (some : 0 < change.left) (s : Told) (is : IsBackable 
 
   pub back_room : HasRoomBack s.now change.left
   back_room = subst (λ (i : ℕ). HasRoomBack s.now i) newest
-      (room_back is.began.entries is.began.old s n is.began.kept is.image below undoes.0)
+      (room_back is.began.entries is.began.behind is.began.old s n is.began.kept is.image below undoes.0)
 
   pub back_undamaged : ¬ (IsDamaged s.now change.left)
-  back_undamaged damaged = never_damaged is.began.entries is.began.old s n is.began.kept is.image below
+  back_undamaged damaged = never_damaged is.began.entries is.began.behind is.began.old s n is.began.kept is.image below
       (subst (λ (i : ℕ). IsDamaged s.now i) (sym newest) damaged)
 
-  pub back_kept : (t : Told) → TouchesRestored change.left s t → AreKept is.began.entries is.began.old t
-  back_kept t touches = kept_goes_on is.began.entries is.began.old s t is.began.kept
-      (λ path stands none fixed. back_fixed is.began.entries is.began.old s n is.began.kept is.image below t path stands
+  pub back_kept : (t : Told) → TouchesRestored change.left s t → AreKept is.began.entries is.began.behind is.began.old t
+  back_kept t touches = kept_goes_on is.began.entries is.began.behind is.began.old s t is.began.kept
+      (λ path stands none fixed. back_fixed is.began.entries is.began.behind is.began.old s n is.began.kept is.image below t path stands
       (subst (λ (i : ℕ). TouchesRestored i s t) (sym newest) touches) none fixed)
 
   pub back_done : (t : Told) → TouchesRestored change.left s t → PutsBack change.left s.now t.now → IsOpen (shortened n change) t
   back_done t touches puts = record {
     entries = is.began.entries;
+    behind = is.began.behind;
     old = is.began.old;
     count = is.began.count;
     left = omega (arith, is.began.left);
     kept = back_kept t touches;
-    undoes = back_puts is.began.entries is.began.old s n is.began.kept is.image below t.now (subst (λ (i : ℕ). PutsBack i s.now t.now) (sym newest) puts) undoes;
+    undoes = back_puts is.began.entries is.began.behind is.began.old s n is.began.kept is.image below t.now (subst (λ (i : ℕ). PutsBack i s.now t.now) (sym newest) puts) undoes;
     all_left = λ no. absurd (let f : ⊥ = cc in f);
     free = λ no. absurd (let f : ⊥ = cc in f);
   }
@@ -71,12 +72,13 @@ module _ (change : Change) (some : 0 < change.left) (s : Told) (is : IsBackable 
   pub back_failed : (t : Told) → TouchesRestored change.left s t → SameButRestored change.left s.now t.now → IsOpen (record change { ready = false; failed = true }) t
   back_failed t touches same = record {
     entries = is.began.entries;
+    behind = is.began.behind;
     old = is.began.old;
     count = is.began.count;
     left = is.began.left;
     kept = back_kept t touches;
     undoes = subst (λ (i : ℕ). Undoes is.began.entries i t.now is.began.old) newest_suc
-        (back_fails is.began.entries is.began.old s n is.began.kept is.image below t.now (subst (λ (i : ℕ). SameButRestored i s.now t.now) (sym newest) same) undoes);
+        (back_fails is.began.entries is.began.behind is.began.old s n is.began.kept is.image below t.now (subst (λ (i : ℕ). SameButRestored i s.now t.now) (sym newest) same) undoes);
     all_left = λ no. absurd (let f : ⊥ = cc in f);
     free = λ no. absurd (let f : ⊥ = cc in f);
   }
@@ -118,11 +120,11 @@ module _ {D : Type 0} (told : D → Option Told) (left_since : D → ℕ → Map
     pub newest_restores : Step (told old) (told new) (λ s t. Elapses s.moment t.moment (left_since old) (left_since new) (IsImage t)) → RestoresSame told left_since old new
     newest_restores time = on_told (told old) _ (λ s e.
         let is : IsBackable change s = at_told (told old) s (IsBackable change) e backable in
-        (one told left_since old old new (λ t. t ≡ s) (AreKept is.began.entries is.began.old) (RestoresLike s.now) (TouchesRestored change.left)
+        (one told left_since old old new (λ t. t ≡ s) (AreKept is.began.entries is.began.behind is.began.old) (RestoresLike s.now) (TouchesRestored change.left)
         (start_at told left_since old s (RestoresLike s.now) only e (λ m. open_restores change s m is.began is.image))
         touches time
         (λ t u same touch. back_kept change some s is u (subst (λ (x : Told). TouchesRestored change.left x u) same touch))
-        (λ u m kept img. kept_alike is.began.entries is.began.entries is.began.old s u s.now m is.began.kept is.image kept img)).leaves)
+        (λ u m kept img. kept_alike is.began.entries is.began.behind is.began.entries is.began.behind is.began.old s u s.now m is.began.kept is.image kept img)).leaves)
 
     pub newest_tells : Step (told old) (told new) (λ s t. ⊤)
     newest_tells = step_each (told old) (told new) (TouchesRestored change.left) (λ s t. ⊤) (λ s t touch. tt) touches
@@ -147,7 +149,7 @@ module _ {D : Type 0} (told : D → Option Told) (left_since : D → ℕ → Map
   -- an open change has an open gate in some image
   pub open_may_be : (change : Change) (d : D) → OnTold (told d) (IsOpen change) → OnTold (told d) (λ t. IsImage t t.now) → OnTold (told d) MayBeOpen
   open_may_be change d began image = on_each (told d) (λ t. IsOpen change t × IsImage t t.now) MayBeOpen
-      (λ t both. (t.now, (both.1, (kept_shows both.0.entries both.0.old t t.now both.0.kept both.1).gate)))
+      (λ t both. (t.now, (both.1, (kept_shows both.0.entries both.0.behind both.0.old t t.now both.0.kept both.1).gate)))
       (on_both (told d) (IsOpen change) (λ t. IsImage t t.now) began image)
 
 -- one entry more is put back

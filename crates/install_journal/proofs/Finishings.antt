@@ -1,11 +1,11 @@
 -- A change is finished.
-use Rattle.std.proofs.Common.{◌≡◌, ◌≢◌, ℕ, ◌+◌, List, [], length, Option, Some, None, inl, inr, ⊎_elim, refl, sym, ◌∙◌, ap, subst}
+use Rattle.std.proofs.Common.{◌≡◌, ◌≢◌, ℕ, ◌+◌, List, [], Option, Some, None, inl, inr, refl, sym, ◌∙◌, ap, subst}
 use Rattle.folder_core.specs.Folder.{Map, Told, SameBut}
 use Rattle.folder_core.specs.Crash.{IsImage, Elapses, LeavesOnly}
 use Rattle.folder_core.specs.Step.{OnTold, Step}
 use Rattle.folder_core.proofs.Moments.{weaker}
 use Rattle.folder_core.proofs.Maps.{changed_here, changed_other}
-use Rattle.backup_store.specs.Held.{gate_text, mark_text, IsOpen as OpensGate}
+use Rattle.backup_store.specs.Held.{gate_text, IsOpen as OpensGate}
 use Rattle.backup_store.specs.Places.{IsOutside, gate_path, entry_path, mark_path}
 use Rattle.backup_store.specs.declared.entry.Entry.{Entry}
 use Rattle.install_journal.specs.Closing.{IsSynced, IsButGate, IsClosed, HasNoGate, OldOrNew}
@@ -17,17 +17,17 @@ use Rattle.install_journal.specs.Tidy.{SameForeign}
 use Rattle.install_journal.specs.declared.change.Change.{Change}
 use Rattle.install_journal.proofs.Closings.{nothing_touched}
 use Rattle.install_journal.proofs.Counting.{closed_restores, is_file_or_not, restores_alike}
-use Rattle.install_journal.proofs.Fixing.{fixed_synced, fixed_image}
-use Rattle.install_journal.proofs.Keeps.{kept_shows, kept_restores, kept_alike, kept_goes_on, shows_old, no_file, text_image}
+use Rattle.install_journal.proofs.Fixing.{fixed_synced}
+use Rattle.install_journal.proofs.Keeps.{kept_shows, kept_restores, kept_alike, kept_goes_on, shows_kept, no_file}
 use Rattle.install_journal.proofs.Opens.{open_restores, open_stays}
 use Rattle.install_journal.proofs.Runs.{on_told, on_each, on_both, at_told, step_on, step_then, Ran, start_at, one, more, weaken}
 
 -- a map that differs from an image at the gate alone, where the gate is open
-pub but_gate_old : (entries : List Entry) (old : Map) (s : Told) (n m : Map) → AreKept entries old s → IsImage s n → IsButGate n m → OpensGate m → IsRestored m old
-but_gate_old entries old s n m kept image but opens =
-    let was = kept_shows entries old s n kept image in
+pub but_gate_old : (entries : List Entry) (behind : ℕ) (old : Map) (s : Told) (n m : Map) → AreKept entries behind old s → IsImage s n → IsButGate n m → OpensGate m → IsRestored m old
+but_gate_old entries behind old s n m kept image but opens =
+    let was = kept_shows entries behind old s n kept image in
     let place_same : (path : List (List ℕ)) → path ≢ gate_path → m path ≡ n path = but.elsewhere in
-    shows_old entries old m kept.most kept.serves kept.formed
+    shows_kept entries behind old s n m kept image
     (record {
       formed = but.formed;
       gate = opens;
@@ -36,12 +36,7 @@ but_gate_old entries old s n m kept image but opens =
       rest = λ path outside none. place_same path (λ e. outside _ e) ∙ was.rest path outside none;
       later = λ number above small. place_same (mark_path number) (λ e. cc) ∙ was.later number above small;
     })
-    (λ counts. ⊎_elim
-    (λ unmarked. absurd (no_file mark_text _ (place_same (mark_path (length entries + 1)) (λ e. cc) ∙ fixed_image s n (mark_path (length entries + 1)) None unmarked image) counts))
-    (λ stray.
-    let text = text_image s n (length entries + 1) stray.stray image stray.text in
-    (stray.stray, (stray.serves, record { entry = text.entry; file = (text.file.0, place_same (entry_path (length entries + 1)) (λ e. cc) ∙ text.file.1) })))
-    kept.harmless)
+    (λ number. place_same (mark_path number) (λ e. cc)) (λ number. place_same (entry_path number) (λ e. cc))
 
 -- and where it is closed
 pub but_gate_new : (n m : Map) → IsButGate n m → ¬ (OpensGate m) → IsRestored m n
@@ -52,14 +47,14 @@ but_gate_foreign n m but path foreign = but.elsewhere path foreign.not_gate
 
 pub but_gate : (change : Change) (s : Told) (m : Map) → IsOpen change s → IsImage s s.now → IsButGate s.now m → OldOrNew s.now m
 but_gate change s m began image but = elim (is_file_or_not gate_text (m gate_path)) [
-  | inl opens ↦ inl (restores_alike s.now m began.old (kept_restores began.entries began.old s s.now began.kept image) (but_gate_old began.entries began.old s s.now m began.kept image but opens) (but_gate_foreign s.now m but))
+  | inl opens ↦ inl (restores_alike s.now m began.old (kept_restores began.entries began.behind began.old s s.now began.kept image) (but_gate_old began.entries began.behind began.old s s.now m began.kept image but opens) (but_gate_foreign s.now m but))
   | inr closed ↦ inr (record { restores = but_gate_new s.now m but closed; foreign = but_gate_foreign s.now m but })
 ]
 
 -- what a sync leaves of a change
-pub kept_synced : (change : Change) (s t : Told) (began : IsOpen change s) → IsImage s s.now → t.synced ≡ s.now → t.touched ≡ [] → AreKept began.entries began.old t
+pub kept_synced : (change : Change) (s t : Told) (began : IsOpen change s) → IsImage s s.now → t.synced ≡ s.now → t.touched ≡ [] → AreKept began.entries began.behind began.old t
 kept_synced change s t began image synced settled =
-    kept_goes_on began.entries began.old s t began.kept (λ path stands none. fixed_synced s t path stands image synced settled)
+    kept_goes_on began.entries began.behind began.old s t began.kept (λ path stands none. fixed_synced s t path stands image synced settled)
 
 pub open_synced : (change : Change) (s t : Told) → IsOpen change s → IsImage s s.now → t.now ≡ s.now → t.synced ≡ s.now → t.touched ≡ [] → IsOpen change t
 open_synced change s t began image now synced settled = open_stays change s t began now (λ path stands. fixed_synced s t path stands image synced settled)
@@ -137,18 +132,18 @@ module _ {D : Type 0} (told : D → Option Told) (left_since : D → ℕ → Map
 
     pub mid_opens : OnTold (told mid) (λ t. IsImage t t.now) → OnTold (told mid) (λ t. OpensGate t.now)
     mid_opens now = on_each (told mid) (λ t. IsOpen change t × IsImage t t.now) (λ t. OpensGate t.now)
-        (λ t both. (kept_shows both.0.entries both.0.old t t.now both.0.kept both.1).gate)
+        (λ t both. (kept_shows both.0.entries both.0.behind both.0.old t t.now both.0.kept both.1).gate)
         (on_both (told mid) (IsOpen change) (λ t. IsImage t t.now) mid_open now)
 
     -- the sync leaves the old installation
     pub mid_ran : (s : Told) (e : told old ≡ Some s) (here : IsOpen change s) → IsImage s s.now
-        → Ran told left_since old mid (λ t. AreKept here.entries here.old t × (t.now ≡ s.now)) (RestoresLike s.now)
-    mid_ran s e here now = one told left_since old old mid (λ t. t ≡ s) (λ t. AreKept here.entries here.old t × (t.now ≡ s.now)) (RestoresLike s.now) Synced
+        → Ran told left_since old mid (λ t. AreKept here.entries here.behind here.old t × (t.now ≡ s.now)) (RestoresLike s.now)
+    mid_ran s e here now = one told left_since old old mid (λ t. t ≡ s) (λ t. AreKept here.entries here.behind here.old t × (t.now ≡ s.now)) (RestoresLike s.now) Synced
         (start_at told left_since old s (RestoresLike s.now) only e (λ m. open_restores change s m here now))
         (synced_at (told old) (told mid) stays synced settled)
         time
         (λ t u same call. (kept_synced change s u here now (call.1.0 ∙ ap (λ (x : Told). x.now) same) call.1.1, call.0 ∙ ap (λ (x : Told). x.now) same))
-        (λ t m kept img. kept_alike here.entries here.entries here.old s t s.now m here.kept now kept.0 img)
+        (λ t m kept img. kept_alike here.entries here.behind here.entries here.behind here.old s t s.now m here.kept now kept.0 img)
 
     module _ (new : D) where
       -- where closing found no memory
@@ -156,9 +151,9 @@ module _ {D : Type 0} (told : D → Option Told) (left_since : D → ℕ → Map
       end_restores C call leaves = on_told (told old) _ (λ s e.
           let here : IsOpen change s = at_told (told old) s (IsOpen change) e began in
           let now : IsImage s s.now = at_told (told old) s (λ t. IsImage t t.now) e image in
-          (more told left_since old mid new (λ t. AreKept here.entries here.old t × (t.now ≡ s.now)) (λ t. Unit {0}) (RestoresLike s.now) C IsImage
+          (more told left_since old mid new (λ t. AreKept here.entries here.behind here.old t × (t.now ≡ s.now)) (λ t. Unit {0}) (RestoresLike s.now) C IsImage
           (mid_ran s e here now) call leaves (λ t u kept same. tt)
-          (λ t m kept img. kept_alike here.entries here.entries here.old s t s.now m here.kept now kept.0 img)).leaves)
+          (λ t m kept img. kept_alike here.entries here.behind here.entries here.behind here.old s t s.now m here.kept now kept.0 img)).leaves)
 
       -- closing leaves the old or the new installation
       pub end_leaves : (C : Told → Told → Type 0) → Step (told mid) (told new) C → OnTold (told mid) (λ t. LeavesOnly told left_since mid new (IsButGate t.now)) → OnTold (told old) (λ s. LeavesOnly told left_since old new (OldOrNew s.now))
@@ -166,7 +161,7 @@ module _ {D : Type 0} (told : D → Option Told) (left_since : D → ℕ → Map
           let here : IsOpen change s = at_told (told old) s (IsOpen change) e began in
           let now : IsImage s s.now = at_told (told old) s (λ t. IsImage t t.now) e image in
           (more told left_since old mid new (λ t. t.now ≡ s.now) (λ t. Unit {0}) (OldOrNew s.now) C (λ t. IsButGate t.now)
-          (weaken told left_since old mid (λ t. AreKept here.entries here.old t × (t.now ≡ s.now)) (λ t. t.now ≡ s.now) (RestoresLike s.now) (OldOrNew s.now) (λ t kept. kept.1) (λ m like. inl like) (mid_ran s e here now))
+          (weaken told left_since old mid (λ t. AreKept here.entries here.behind here.old t × (t.now ≡ s.now)) (λ t. t.now ≡ s.now) (RestoresLike s.now) (OldOrNew s.now) (λ t kept. kept.1) (λ m like. inl like) (mid_ran s e here now))
           call leaves (λ t u same so. tt)
           (λ t m same but. but_gate change s m here now (subst (λ (x : Map). IsButGate x m) same but))).leaves)
 

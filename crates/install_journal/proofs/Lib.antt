@@ -1,4 +1,5 @@
 pub mod Abandonings
+pub mod Aheads
 pub mod Apart
 pub mod Backs
 pub mod Beginnings
@@ -17,6 +18,7 @@ pub mod Fixing
 pub mod Foreigns
 pub mod Gatherings
 pub mod Keepings
+pub mod KeepingsAll
 pub mod Keeps
 pub mod Names
 pub mod Openings
@@ -38,6 +40,9 @@ pub mod Removings
 pub mod Restorings
 pub mod Runs
 pub mod Settings
+pub mod TouchesDone
 pub mod Touchings
+pub mod TouchingsAll
+pub mod TurnsServe
 pub mod Undoings
 pub mod Unique

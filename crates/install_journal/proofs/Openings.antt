@@ -79,6 +79,7 @@ begun_open s u t fresh formed set now synced settled =
     subst (IsFixed t path) (ap (λ (m : Map). m path) set ∙ changed_other s.now gate_path (Some open_file) path apart ∙ is) (fixed path) in
     record {
       entries = [];
+      behind = 0;
       old = s.now;
       count = refl;
       left = omega arith;
@@ -93,15 +94,12 @@ begun_open s u t fresh formed set now synced settled =
         rest = λ path outside none. other path (s.now path) (λ e. outside _ e) refl;
         no_later_marks = λ number above small. other (mark_path number) None (λ e. cc) (fresh.entries.none _);
         no_later_texts = λ number above small. other (entry_path number) None (λ e. cc) (fresh.entries.none _);
-        harmless = inl (other (mark_path 1) None (λ e. cc) (fresh.entries.none _));
+        harmless = inl (λ number among. other (mark_path number) None (λ e. cc) (fresh.entries.none _));
         foreign = λ path is. other path None is.not_gate (fresh.tidy path is);
       };
       undoes = λ path outside. ap (λ (m : Map). m path) (now ∙ set) ∙ changed_other s.now gate_path (Some open_file) path (λ e. outside _ e);
       all_left = λ _. refl;
-      free = λ _. record {
-        mark = other (mark_path 1) None (λ e. cc) (fresh.entries.none _);
-        text = other (entry_path 1) None (λ e. cc) (fresh.entries.none _);
-      };
+      free = λ _. refl;
     }
 
 module _ {D : Type 0} (told : D → Option Told) (left_since : D → ℕ → Map → Type 0) (old : D) (path : List (List ℕ)) (is : path ≡ gate_path)

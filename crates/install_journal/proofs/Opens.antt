@@ -11,12 +11,13 @@ use Rattle.install_journal.specs.Open.{IsOpen, spoiled}
 use Rattle.install_journal.specs.Restored.{RestoresLike, RestoresSame}
 use Rattle.install_journal.specs.declared.change.Change.{Change}
 use Rattle.install_journal.proofs.Fixing.{fixed_same}
-use Rattle.install_journal.proofs.Keeps.{kept_alike, kept_goes_on, free_goes_on}
+use Rattle.install_journal.proofs.Keeps.{kept_alike, kept_goes_on}
 use Rattle.install_journal.proofs.Runs.{on_told, at_told, step_on, step_each, start_at, one}
 
 pub open_spoiled : (change : Change) (s : Told) → IsOpen change s → IsOpen (spoiled change) s
 open_spoiled change s is = record {
   entries = is.entries;
+  behind = is.behind;
   old = is.old;
   count = is.count;
   left = is.left;
@@ -29,6 +30,7 @@ open_spoiled change s is = record {
 pub open_unready : (change : Change) (s : Told) → IsOpen change s → IsOpen (record change { ready = false }) s
 open_unready change s is = record {
   entries = is.entries;
+  behind = is.behind;
   old = is.old;
   count = is.count;
   left = is.left;
@@ -44,13 +46,14 @@ pub open_stays : (change : Change) (s t : Told) → IsOpen change s → t.now �
     → IsOpen change t
 open_stays change s t is now goes = record {
   entries = is.entries;
+  behind = is.behind;
   old = is.old;
   count = is.count;
   left = is.left;
-  kept = kept_goes_on is.entries is.old s t is.kept (λ path stands none. goes path stands);
+  kept = kept_goes_on is.entries is.behind is.old s t is.kept (λ path stands none. goes path stands);
   undoes = subst (λ (m : Map). Undoes is.entries change.left m is.old) (sym now) is.undoes;
   all_left = is.all_left;
-  free = λ ready. free_goes_on is.entries is.old s t is.kept (is.free ready) (λ path stands none. goes path stands);
+  free = is.free;
 }
 
 pub open_looks : (change : Change) (s t : Told) (past since : ℕ → Map → Type 0) → IsOpen change s → Looks past since s t → IsOpen change t
@@ -58,7 +61,7 @@ open_looks change s t past since is looks = open_stays change s t is looks.now (
 
 -- each image restores to what the map now restores to
 pub open_restores : (change : Change) (s : Told) (m : Map) → IsOpen change s → IsImage s s.now → IsImage s m → RestoresLike s.now m
-open_restores change s m is image_now image = kept_alike is.entries is.entries is.old s s s.now m is.kept image_now is.kept image
+open_restores change s m is image_now image = kept_alike is.entries is.behind is.entries is.behind is.old s s s.now m is.kept image_now is.kept image
 
 looks_at : (a b : Option Told) (past since : ℕ → Map → Type 0)
     → Step a b (λ s t. t.now ≡ s.now) → Step a b (λ s t. t.synced ≡ s.synced) → Step a b (λ s t. t.touched ≡ s.touched)

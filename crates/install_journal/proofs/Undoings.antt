@@ -34,7 +34,7 @@ set_same a b path stands same place outside = elim (same_path place path) [
   | inr apart ↦ changed_other b path stands place apart ∙ same place outside ∙ sym (changed_other a path stands place apart)
 ]
 
-can_but : (a b : Map) (path : List (List ℕ)) → SameBut path a b → CanSet a path → CanSet b path
+pub can_but : (a b : Map) (path : List (List ℕ)) → SameBut path a b → CanSet a path → CanSet b path
 can_but a b path same can = record {
   not_root = can.not_root;
   parent = same (parent path) (parent_apart path can.not_root) ∙ can.parent;
@@ -93,13 +93,13 @@ undoes_push entries before after later old path all_outside outside can same but
     )
 
 -- Of entries that are kept, the last one that isn't put back.
-module _ (entries : List Entry) (old : Map) (s : Told) (n : ℕ) (kept : AreKept entries old s) (image : IsImage s s.now) (below : n < length entries) where
+module _ (entries : List Entry) (behind : ℕ) (old : Map) (s : Told) (n : ℕ) (kept : AreKept entries behind old s) (image : IsImage s s.now) (below : n < length entries) where
   abbrev entry : Entry
   entry = entry_at entries n
 
   can_restore : CanRestore s.now (n + 1) entry.path entry.before
   can_restore = record {
-    holds = (kept_shows entries old s s.now kept image).texts n below;
+    holds = (kept_shows entries behind old s s.now kept image).texts n below;
     outside = kept.serves.outside entry.path (covers_at entries n below);
   }
 

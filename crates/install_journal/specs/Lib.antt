@@ -1,4 +1,5 @@
 pub mod Abandoning
+pub mod Ahead
 pub mod Broken
 pub mod Closing
 pub mod Firsts

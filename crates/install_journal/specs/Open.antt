@@ -2,19 +2,20 @@
 use Rattle.std.specs.Prelude.{◌≡◌, ℕ, ◌≤◌, true, List, length}
 use Rattle.folder_core.specs.Folder.{Map, Told}
 use Rattle.backup_store.specs.declared.entry.Entry.{Entry}
-use Rattle.install_journal.specs.Kept.{AreKept, IsFree, Undoes}
+use Rattle.install_journal.specs.Kept.{AreKept, Undoes}
 use Rattle.install_journal.specs.declared.change.Change.{Change}
 
 -- The change was begun in this folder: its entries are kept there, and lead back to the old installation.
 pub record IsOpen (change : Change) (s : Told) : Type 0 where
   pub entries : List Entry
+  pub behind : ℕ
   pub old : Map
   pub count : length entries ≡ change.kept
   pub left : change.left ≤ change.kept
-  pub kept : AreKept entries old s
+  pub kept : AreKept entries behind old s
   pub undoes : Undoes entries change.left s.now old
   pub all_left : change.ready ≡ true → change.left ≡ change.kept
-  pub free : change.ready ≡ true → IsFree entries s
+  pub free : change.ready ≡ true → behind ≡ 0
 
 -- the change after a call on it failed, found no memory or met damage
 abbrev pub spoiled : Change → Change

@@ -19,6 +19,7 @@ mod reading;
 mod recovering;
 mod restoring;
 mod touching;
+mod touching_all;
 mod undoing;
 
 pub use change::{Change, Receipt};

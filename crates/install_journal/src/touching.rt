@@ -17,7 +17,7 @@ use backup_store::{EntryNumber, StoreFault, keep};
 use folder_core::{Folder, FolderError, Node, Path};
 use std::alloc::Global;
 
-const MOST_ENTRIES: u32 = 1_000_000;
+pub(crate) const MOST_ENTRIES: u32 = 1_000_000;
 
 impl Change {
     /// Keeps what stands at a path as an entry, and then puts a node there, or takes the one there away.
@@ -73,7 +73,7 @@ impl Change {
         }
     }
 
-    fn refuse(&mut self, fault: TouchFault) -> TouchFault
+    pub(crate) fn refuse(&mut self, fault: TouchFault) -> TouchFault
         requires { fault ≢ TouchFault.TooManyEntries }
         ensures fault { result ≡ fault }
         ensures change { self.new ≡ refused fault self.old }

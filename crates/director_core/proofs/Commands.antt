@@ -11,7 +11,8 @@ use Rattle.director_core.specs.Performs.{Fails, PrintsFailed, Adds}
 use Rattle.director_core.specs.Printed.{Prints}
 use Rattle.director_core.specs.Refuses.{Ends, WritesRefusal}
 use Rattle.director_core.specs.Stops.{Stops}
-use Rattle.director_core.proofs.Endings.{ends_answer, only_answer, stopped_leaves, stopped_prints, failed_prints}
+use Rattle.director_core.proofs.Endings.{ends_answer, stopped_leaves, stopped_prints, failed_prints}
+use Rattle.director_core.proofs.OnlyAnswer.{only_answer}
 use Rattle.director_source.proofs.Steps.{step_then, step_weaker, on_told_all, both_weaker}
 
 -- ---- a stage before the plan gave up

@@ -8,38 +8,39 @@ use Rattle.folder_core.specs.declared.node.After.TheVariants.{Unchanged, Recover
 use Rattle.unit_model.specs.declared.unit.Unit.{Unit}
 use Rattle.director_words.specs.declared.status.Status.{Status}
 use Rattle.director_words.specs.declared.status.Status.TheVariants.{Done, NotBuilt, Usage, SourceRefused, Unknown, FolderFault, SourceFault, SinkFault, Limit, NoMemory}
-use Rattle.director_core.specs.Answer.{IsAsked, AsksFor, HasChild, Chooses, Installs, IsAnswer}
+use Rattle.director_core.specs.Answer.{IsAsked, AsksFor, HasChild, Chooses, Installs, IsAnswerAt, IsAnswer}
 use Rattle.director_core.specs.Built.{IsBuilt}
+use Rattle.director_core.specs.Ends.{NoRequest, OwnCause, FailedSource, End, AtCommit, AtRefusal, AtFolderFault, AtMemoryFault, AtSinkFault, end_of}
 use Rattle.director_core.specs.Found.{Finds, FindsNone}
 use Rattle.director_core.specs.Laid.{IsBare}
 use Rattle.director_core.specs.declared.plan.Plan.{Plan}
 use Rattle.director_core.specs.Planned.{IsReady, IsUnplanned}
 use Rattle.director_source.specs.Source.{SourceGives}
 use Rattle.director_source.specs.SourceStop.{StopsReading}
-use Rattle.director_core.specs.Stops.{Stops}
+use Rattle.director_core.specs.Stops.{StopsAt, Stops}
 use Rattle.director_source.proofs.Steps.{both_weaker}
 
-abbrev IsCause : Type 1
-IsCause = Status → Type 0
+abbrev Causing : Type 1
+Causing = Status → Type 0
 
 -- weaker causes
-pub stops_weaker : (W F S : Type 0) (G : IsCause) (W' F' S' : Type 0) (G' : IsCause) → (W → W') → (F → F') → (S → S') → ((s : Status) → G s → G' s) → (s : Status) → Stops W F S G s → Stops W' F' S' G' s
-stops_weaker W F S G W' F' S' G' w f t g Done h = absurd h
-stops_weaker W F S G W' F' S' G' w f t g NotBuilt h = g NotBuilt h
-stops_weaker W F S G W' F' S' G' w f t g Usage h = w h
-stops_weaker W F S G W' F' S' G' w f t g (SourceRefused folder why) h = g (SourceRefused folder why) h
-stops_weaker W F S G W' F' S' G' w f t g (Unknown word) h = g (Unknown word) h
-stops_weaker W F S G W' F' S' G' w f t g (FolderFault Unchanged) h = f h
-stops_weaker W F S G W' F' S' G' w f t g (FolderFault Recover) h = absurd h
-stops_weaker W F S G W' F' S' G' w f t g (FolderFault Either) h = absurd h
-stops_weaker W F S G W' F' S' G' w f t g SourceFault h = t h
-stops_weaker W F S G W' F' S' G' w f t g (SinkFault committed) h = absurd h
-stops_weaker W F S G W' F' S' G' w f t g (Limit what most) h = g (Limit what most) h
-stops_weaker W F S G W' F' S' G' w f t g (NoMemory Unchanged) h = tt
-stops_weaker W F S G W' F' S' G' w f t g (NoMemory Recover) h = absurd h
-stops_weaker W F S G W' F' S' G' w f t g (NoMemory Either) h = absurd h
+stops_weaker_at : (end : End) (W F S G W' F' S' G' : Type 0) → (W → W') → (F → F') → (S → S') → (G → G') → StopsAt W F S G end → StopsAt W' F' S' G' end
+stops_weaker_at AtCommit W F S G W' F' S' G' w f t g h = absurd h
+stops_weaker_at (AtRefusal NoRequest wording) W F S G W' F' S' G' w f t g h = w h
+stops_weaker_at (AtRefusal OwnCause wording) W F S G W' F' S' G' w f t g h = g h
+stops_weaker_at (AtRefusal FailedSource wording) W F S G W' F' S' G' w f t g h = t h
+stops_weaker_at (AtFolderFault Unchanged) W F S G W' F' S' G' w f t g h = f h
+stops_weaker_at (AtFolderFault Recover) W F S G W' F' S' G' w f t g h = absurd h
+stops_weaker_at (AtFolderFault Either) W F S G W' F' S' G' w f t g h = absurd h
+stops_weaker_at (AtMemoryFault Unchanged) W F S G W' F' S' G' w f t g h = tt
+stops_weaker_at (AtMemoryFault Recover) W F S G W' F' S' G' w f t g h = absurd h
+stops_weaker_at (AtMemoryFault Either) W F S G W' F' S' G' w f t g h = absurd h
+stops_weaker_at (AtSinkFault committed) W F S G W' F' S' G' w f t g h = absurd h
 
-pub reading_stops : (G : IsCause) (R : Type 0) (s : Status) → StopsReading G R s → Stops ⊥ ⊥ R G s
+pub stops_weaker : (W F S : Type 0) (G : Causing) (W' F' S' : Type 0) (G' : Causing) → (W → W') → (F → F') → (S → S') → ((s : Status) → G s → G' s) → (s : Status) → Stops W F S G s → Stops W' F' S' G' s
+stops_weaker W F S G W' F' S' G' w f t g s h = stops_weaker_at (end_of s) W F S (G s) W' F' S' (G' s) w f t (g s) h
+
+pub reading_stops : (G : Causing) (R : Type 0) (s : Status) → StopsReading G R s → Stops ⊥ ⊥ R G s
 reading_stops G R Done h = absurd h
 reading_stops G R NotBuilt h = absurd h
 reading_stops G R Usage h = absurd h
@@ -54,24 +55,24 @@ reading_stops G R (NoMemory Recover) h = absurd h
 reading_stops G R (NoMemory Either) h = absurd h
 
 -- the causes are those of the answer
+stops_answer_at : (end : End) (words : List (List ℕ)) (m : Map) (files : Files) (s : Status) → StopsAt (IsAsked words → ⊥) (IsAsked words) (IsAsked words × IsBare m) (IsAnswerAt words m files s end) end → IsAnswerAt words m files s end
+stops_answer_at AtCommit words m files s h = absurd h
+stops_answer_at (AtRefusal NoRequest wording) words m files s h = h
+stops_answer_at (AtRefusal OwnCause wording) words m files s h = h
+stops_answer_at (AtRefusal FailedSource wording) words m files s h = h
+stops_answer_at (AtFolderFault Unchanged) words m files s h = h
+stops_answer_at (AtFolderFault Recover) words m files s h = absurd h
+stops_answer_at (AtFolderFault Either) words m files s h = absurd h
+stops_answer_at (AtMemoryFault Unchanged) words m files s h = tt
+stops_answer_at (AtMemoryFault Recover) words m files s h = absurd h
+stops_answer_at (AtMemoryFault Either) words m files s h = absurd h
+stops_answer_at (AtSinkFault committed) words m files s h = absurd h
+
 stops_answer : (words : List (List ℕ)) (m : Map) (files : Files) (s : Status) → Stops (IsAsked words → ⊥) (IsAsked words) (IsAsked words × IsBare m) (IsAnswer words m files) s → IsAnswer words m files s
-stops_answer words m files Done h = absurd h
-stops_answer words m files NotBuilt h = h
-stops_answer words m files Usage h = h
-stops_answer words m files (SourceRefused folder why) h = h
-stops_answer words m files (Unknown word) h = h
-stops_answer words m files (FolderFault Unchanged) h = h
-stops_answer words m files (FolderFault Recover) h = absurd h
-stops_answer words m files (FolderFault Either) h = absurd h
-stops_answer words m files SourceFault h = h
-stops_answer words m files (SinkFault committed) h = absurd h
-stops_answer words m files (Limit what most) h = h
-stops_answer words m files (NoMemory Unchanged) h = tt
-stops_answer words m files (NoMemory Recover) h = absurd h
-stops_answer words m files (NoMemory Either) h = absurd h
+stops_answer words m files s h = stops_answer_at (end_of s) words m files s h
 
 -- a stage that stops for causes of its own alone
-stage_answer : (words : List (List ℕ)) (m : Map) (files : Files) (G : IsCause) → ((s : Status) → G s → IsAnswer words m files s) → (s : Status) → Stops ⊥ ⊥ ⊥ G s → IsAnswer words m files s
+stage_answer : (words : List (List ℕ)) (m : Map) (files : Files) (G : Causing) → ((s : Status) → G s → IsAnswer words m files s) → (s : Status) → Stops ⊥ ⊥ ⊥ G s → IsAnswer words m files s
 stage_answer words m files G g s h =
     stops_answer words m files s (stops_weaker ⊥ ⊥ ⊥ G (IsAsked words → ⊥) (IsAsked words) (IsAsked words × IsBare m) (IsAnswer words m files) (λ x. absurd x) (λ x. absurd x) (λ x. absurd x) g s h)
 

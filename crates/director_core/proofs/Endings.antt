@@ -1,305 +1,102 @@
--- How a command ends, from how its stages ended.
-use Rattle.std.proofs.Common.{◌≡◌, ◌≤◌, ◌⊎◌, length, arith, ℕ, List, [], ◌∷◌, ◌++◌, Some, None, refl, sym, ap, ◌∙◌, subst, inl, inr, ⊎_elim}
+-- How a command ends, from how its stages ended. Each law goes by the few ends, not by the statuses.
+use Rattle.std.proofs.Common.{◌≡◌, ℕ, List, ◌++◌, Some, None, refl, sym, ap, ◌∙◌, subst, inl, inr, ⊎_elim}
 use Rattle.std.proofs.lemmas.List.{append-nil}
 use Rattle.folder_core.specs.Folder.{Map}
 use Rattle.folder_core.specs.Tree.{Files}
 use Rattle.folder_core.specs.declared.node.After.TheVariants.{Unchanged, Recover, Either}
 use Rattle.unit_model.specs.declared.unit.Unit.{Unit}
-use Rattle.director_words.specs.declared.request.Request.TheVariants.{Install}
-use Rattle.director_words.specs.declared.limit.LimitName.{LimitName}
-use Rattle.director_words.specs.declared.limit.LimitName.TheVariants.{FileBytes}
-use Rattle.director_words.specs.declared.source_why.SourceWhy.{SourceWhy}
 use Rattle.director_words.specs.declared.status.Status.{Status}
-use Rattle.director_words.specs.declared.status.Status.TheVariants.{Done, NotBuilt, Usage, SourceRefused, Unknown, FolderFault, SourceFault, SinkFault, Limit, NoMemory}
-use Rattle.director_words.proofs.Requests.{same_request}
-use Rattle.director_core.specs.Answer.{IsAsked, AsksFor, HasChild, Chooses, first_text, Installs, CanInstall, WantsMore, IsRefused, IsTooLong, NamesUnknown, IsAnswer, IsPlainAnswer, IsAnswerOrFault, Leaves}
-use Rattle.director_core.specs.Built.{IsBuilt}
-use Rattle.director_core.specs.Durable.{OnCommitted}
-use Rattle.director_core.specs.Laid.{IsBare}
-use Rattle.director_core.specs.Found.{Finds}
-use Rattle.director_core.specs.Performs.{Fails, LeavesFailed, PrintsFailed}
-use Rattle.director_core.specs.Printed.{IsFront, IsFaultPrinted, plan_lines, refusal_lines, Prints}
-use Rattle.director_core.specs.Refuses.{Ends, WritesOrFails, WritesWithMemory, WritesRefusal}
-use Rattle.director_core.specs.Stops.{Stops}
-use Rattle.director_source.proofs.Folders.{units_same, given_not_refused, refusal_same}
-use Rattle.director_source.proofs.Apart.{given_apart}
-use Rattle.director_core.proofs.Distinct.{found_once}
+use Rattle.director_words.specs.declared.status.Status.TheVariants.{SinkFault, NoMemory}
+use Rattle.director_core.specs.Answer.{Installs, IsAnswerAt, IsAnswer, LeavesAt, Leaves}
+use Rattle.director_core.specs.Durable.{OnCommittedEnd, OnCommitted}
+use Rattle.director_core.specs.Ends.{Fixed, MadeUp, End, AtCommit, AtRefusal, AtFolderFault, AtMemoryFault, AtSinkFault, end_of}
+use Rattle.director_core.specs.Performs.{FailsAt, Fails, LeavesFailedAt, LeavesFailed, PrintsFailedAt, PrintsFailed}
+use Rattle.director_core.specs.Printed.{IsFront, IsFaultPrinted, plan_lines, refusal_lines, PrintsAt, Prints}
+use Rattle.director_core.specs.Refuses.{EndsAt, Ends, WritesOrFails, WritesWithMemory, WritesRefusalAt, WritesRefusal}
+use Rattle.director_core.specs.Stops.{StopsAt, Stops}
 
--- what holds of two holds of their equals
-transp2 : {X Y : Type 0} (P : X → Y → Type 0) {x x' : X} {y y' : Y} → x ≡ x' → y ≡ y' → P x y → P x' y'
-transp2 {X} {Y} P {x} {x'} {y} {y'} e f h = subst (λ (b : Y). P x' b) f (subst (λ (a : X). P a y) e h)
+-- ---- how a status ends
+
+-- What holds of a status holds of how the command ends with it, where it holds of a fault of the sink and of want of
+-- memory.
+ended_at : (end : End) (P : Status → Type 0) (failed : Type 0) (s r : Status) → EndsAt end s r failed → P s → (failed → P (SinkFault None)) → P (NoMemory Unchanged) → P r
+ended_at AtCommit P failed s r e same sink memory = subst P (sym e) same
+ended_at (AtRefusal reason Fixed) P failed s r e same sink memory =
+    ⊎_elim (λ p. subst P (sym p) same) (λ p. subst P (sym p.0) (sink p.1)) e
+ended_at (AtRefusal reason MadeUp) P failed s r e same sink memory =
+    ⊎_elim (λ q. ⊎_elim (λ p. subst P (sym p) same) (λ p. subst P (sym p.0) (sink p.1)) q) (λ p. subst P (sym p) memory) e
+ended_at (AtFolderFault left) P failed s r e same sink memory = subst P (sym e) same
+ended_at (AtMemoryFault left) P failed s r e same sink memory = subst P (sym e) same
+ended_at (AtSinkFault committed) P failed s r e same sink memory = subst P (sym e) same
+
+pub ended : (P : Status → Type 0) (failed : Type 0) (s r : Status) → Ends s r failed → P s → (failed → P (SinkFault None)) → P (NoMemory Unchanged) → P r
+ended P failed s r e same sink memory = ended_at (end_of s) P failed s r e same sink memory
+
+-- Where performing the plan failed, the status stays.
+stays_at : (end : End) (F K failed : Type 0) (s r : Status) → FailsAt F K end → EndsAt end s r failed → r ≡ s
+stays_at AtCommit F K failed s r h e = absurd h
+stays_at (AtRefusal reason wording) F K failed s r h e = absurd h
+stays_at (AtFolderFault left) F K failed s r h e = e
+stays_at (AtMemoryFault left) F K failed s r h e = e
+stays_at (AtSinkFault committed) F K failed s r h e = e
+
+pub failed_stays_so : (P : Status → Type 0) (F K failed : Type 0) (s r : Status) → Fails F K s → Ends s r failed → P s → P r
+failed_stays_so P F K failed s r h e same = subst P (sym (stays_at (end_of s) F K failed s r h e)) same
 
 -- ---- the answer
 
 pub ends_answer : (words : List (List ℕ)) (m : Map) (files : Files) (s r : Status) (failed : Type 0) → Ends s r failed → IsAnswer words m files s → IsAnswer words m files r
-ends_answer words m files Done r failed e a = subst (IsAnswer words m files) (sym e) a
-ends_answer words m files NotBuilt r failed e a = ⊎_elim (λ p. subst (IsAnswer words m files) (sym p) a) (λ p. subst (IsAnswer words m files) (sym p.0) tt) e
-ends_answer words m files Usage r failed e a = ⊎_elim (λ p. subst (IsAnswer words m files) (sym p) a) (λ p. subst (IsAnswer words m files) (sym p.0) tt) e
-ends_answer words m files (SourceRefused folder why) r failed e a =
-    ⊎_elim (λ q. ⊎_elim (λ p. subst (IsAnswer words m files) (sym p) a) (λ p. subst (IsAnswer words m files) (sym p.0) tt) q) (λ p. subst (IsAnswer words m files) (sym p) tt) e
-ends_answer words m files (Unknown word) r failed e a =
-    ⊎_elim (λ q. ⊎_elim (λ p. subst (IsAnswer words m files) (sym p) a) (λ p. subst (IsAnswer words m files) (sym p.0) tt) q) (λ p. subst (IsAnswer words m files) (sym p) tt) e
-ends_answer words m files (Limit what most) r failed e a =
-    ⊎_elim (λ q. ⊎_elim (λ p. subst (IsAnswer words m files) (sym p) a) (λ p. subst (IsAnswer words m files) (sym p.0) tt) q) (λ p. subst (IsAnswer words m files) (sym p) tt) e
-ends_answer words m files (FolderFault after) r failed e a = subst (IsAnswer words m files) (sym e) a
-ends_answer words m files SourceFault r failed e a = ⊎_elim (λ p. subst (IsAnswer words m files) (sym p) a) (λ p. subst (IsAnswer words m files) (sym p.0) tt) e
-ends_answer words m files (SinkFault committed) r failed e a = subst (IsAnswer words m files) (sym e) a
-ends_answer words m files (NoMemory after) r failed e a = subst (IsAnswer words m files) (sym e) a
+ends_answer words m files s r failed e a = ended (IsAnswer words m files) failed s r e a (λ k. tt) tt
 
 -- a plan that could not be performed to its end
+failed_answer_at : (end : End) (words : List (List ℕ)) (m : Map) (files : Files) (profile : List ℕ) (unit : Unit) (F K : Type 0) (s : Status) → Installs words m files profile unit → FailsAt F K end → IsAnswerAt words m files s end
+failed_answer_at AtCommit words m files profile unit F K s i h = absurd h
+failed_answer_at (AtRefusal reason wording) words m files profile unit F K s i h = absurd h
+failed_answer_at (AtFolderFault Unchanged) words m files profile unit F K s i h = absurd h
+failed_answer_at (AtFolderFault Recover) words m files profile unit F K s i h = (profile, unit, i)
+failed_answer_at (AtFolderFault Either) words m files profile unit F K s i h = absurd h
+failed_answer_at (AtMemoryFault Unchanged) words m files profile unit F K s i h = tt
+failed_answer_at (AtMemoryFault Recover) words m files profile unit F K s i h = (profile, unit, i)
+failed_answer_at (AtMemoryFault Either) words m files profile unit F K s i h = absurd h
+failed_answer_at (AtSinkFault None) words m files profile unit F K s i h = tt
+failed_answer_at (AtSinkFault (Some number)) words m files profile unit F K s i h = (h.0, (profile, unit, i))
+
 pub failed_answer : (words : List (List ℕ)) (m : Map) (files : Files) (profile : List ℕ) (unit : Unit) (F K : Type 0) (s : Status) → Installs words m files profile unit → Fails F K s → IsAnswer words m files s
-failed_answer words m files profile unit F K Done i h = absurd h
-failed_answer words m files profile unit F K NotBuilt i h = absurd h
-failed_answer words m files profile unit F K Usage i h = absurd h
-failed_answer words m files profile unit F K (SourceRefused folder why) i h = absurd h
-failed_answer words m files profile unit F K (Unknown word) i h = absurd h
-failed_answer words m files profile unit F K (Limit what most) i h = absurd h
-failed_answer words m files profile unit F K (FolderFault Unchanged) i h = absurd h
-failed_answer words m files profile unit F K (FolderFault Recover) i h = (profile, unit, i)
-failed_answer words m files profile unit F K (FolderFault Either) i h = absurd h
-failed_answer words m files profile unit F K SourceFault i h = absurd h
-failed_answer words m files profile unit F K (SinkFault None) i h = tt
-failed_answer words m files profile unit F K (SinkFault (Some number)) i h = (h.0, (profile, unit, i))
-failed_answer words m files profile unit F K (NoMemory Unchanged) i h = tt
-failed_answer words m files profile unit F K (NoMemory Recover) i h = (profile, unit, i)
-failed_answer words m files profile unit F K (NoMemory Either) i h = absurd h
-
--- ---- no other answer
-
--- the words ask for one profile and one word
-asked_same : (words : List (List ℕ)) (p q v w : List ℕ) → AsksFor words p v → AsksFor words q w → (p ≡ q) × (v ≡ w)
-asked_same words p q v w a b =
-    let same : Install p a.budget (v ∷ []) ≡ Install q b.budget (w ∷ []) = same_request words _ _ a.asks b.asks in
-    (cc, cc)
-
-not_bare : (m : Map) → IsBare m → HasChild m → ⊥
-not_bare m is_bare child = let e = is_bare child.0 in let h = child.1 in cc
-
-asked_by : (words : List (List ℕ)) (profile word : List ℕ) → AsksFor words profile word → IsAsked words
-asked_by words profile word asks = (profile, word, asks)
-
--- the words choose one unit
-record SameChoice (p q : List ℕ) (u v : Unit) : Type 0 where
-  pub profile : p ≡ q
-  pub unit : u ≡ v
-
-chosen_same : (words : List (List ℕ)) (m : Map) (files : Files) (p q : List ℕ) (u v : Unit) → Chooses words m files p u → Chooses words m files q v → SameChoice p q u v
-chosen_same words m files p q u v a b =
-    let asked = asked_same words p q a.word b.word a.asks b.asks in
-    let units = units_same files a.units b.units a.gives b.gives in
-    let P : List ℕ → List Unit → Type 0 = λ word units. Finds word units v in
-    let found : Finds a.word a.units v = transp2 P (sym asked.1) (sym units) b.finds in
-    record { profile = asked.0; unit = found_once a.units a.word u v (given_apart files a.units a.gives) a.finds found }
-
--- a unit that is chosen is known
-chosen_known : (words : List (List ℕ)) (m : Map) (files : Files) (profile : List ℕ) (unit : Unit) (word : List ℕ) → Chooses words m files profile unit → NamesUnknown words m files word → ⊥
-chosen_known words m files profile unit word c n =
-    let asked = asked_same words profile n.0 c.word word c.asks n.2 in
-    let units = units_same files c.units n.1 c.gives n.4 in
-    let P : List ℕ → List Unit → Type 0 = λ word units. Finds word units unit in
-    n.5 unit (transp2 P asked.1 units c.finds)
-
-chosen_unrefused : (words : List (List ℕ)) (m : Map) (files : Files) (profile : List ℕ) (unit : Unit) (s : Status) → Chooses words m files profile unit → IsRefused words m files s → ⊥
-chosen_unrefused words m files profile unit s c r = given_not_refused files c.units s c.gives r.2
-
-unknown_unrefused : (words : List (List ℕ)) (m : Map) (files : Files) (word : List ℕ) (s : Status) → NamesUnknown words m files word → IsRefused words m files s → ⊥
-unknown_unrefused words m files word s n r = given_not_refused files n.1 s n.4 r.2
-
-install_not_more : (words : List (List ℕ)) (m : Map) (files : Files) → CanInstall words m files → WantsMore words m files → ⊥
-install_not_more words m files i w =
-    ⊎_elim
-    (λ child. not_bare m i.2.chooses.is_bare child)
-    (λ part. let same = chosen_same words m files i.0 part.0 i.1 part.1 i.2.chooses part.2 in part.3 (subst IsBuilt same.unit i.2.is_built))
-    w.1
-
-install_not_long : (words : List (List ℕ)) (m : Map) (files : Files) → CanInstall words m files → IsTooLong words m files → ⊥
-install_not_long words m files i l =
-    let same = chosen_same words m files i.0 l.0 i.1 l.1 i.2.chooses l.2 in
-    let P : List ℕ → Unit → Type 0 = λ profile unit. length (first_text profile unit) ≤ 67108864 in
-    let fits : length (first_text l.0 l.1) ≤ 67108864 = transp2 P same.profile same.unit i.2.fits in
-    let long = l.4 in
-    omega arith
-
-more_not_unknown : (words : List (List ℕ)) (m : Map) (files : Files) (word : List ℕ) → WantsMore words m files → NamesUnknown words m files word → ⊥
-more_not_unknown words m files word w n =
-    ⊎_elim (λ child. not_bare m n.3 child) (λ part. chosen_known words m files part.0 part.1 word part.2 n) w.1
-
-more_not_refused : (words : List (List ℕ)) (m : Map) (files : Files) (s : Status) → WantsMore words m files → IsRefused words m files s → ⊥
-more_not_refused words m files s w r =
-    ⊎_elim (λ child. not_bare m r.1 child) (λ part. chosen_unrefused words m files part.0 part.1 s part.2 r) w.1
-
-more_not_long : (words : List (List ℕ)) (m : Map) (files : Files) → WantsMore words m files → IsTooLong words m files → ⊥
-more_not_long words m files w l =
-    ⊎_elim
-    (λ child. not_bare m l.2.is_bare child)
-    (λ part. let same = chosen_same words m files part.0 l.0 part.1 l.1 part.2 l.2 in part.3 (subst IsBuilt (sym same.unit) l.3))
-    w.1
-
-long_not_unknown : (words : List (List ℕ)) (m : Map) (files : Files) (word : List ℕ) → IsTooLong words m files → NamesUnknown words m files word → ⊥
-long_not_unknown words m files word l n = chosen_known words m files l.0 l.1 word l.2 n
-
-long_not_refused : (words : List (List ℕ)) (m : Map) (files : Files) (s : Status) → IsTooLong words m files → IsRefused words m files s → ⊥
-long_not_refused words m files s l r = chosen_unrefused words m files l.0 l.1 s l.2 r
-
-refused_same : (words : List (List ℕ)) (m : Map) (files : Files) (s t : Status) → IsRefused words m files s → IsRefused words m files t → s ≡ t
-refused_same words m files s t a b = refusal_same files s t a.2 b.2
-
-unknown_same : (words : List (List ℕ)) (m : Map) (files : Files) (v w : List ℕ) → NamesUnknown words m files v → NamesUnknown words m files w → v ≡ w
-unknown_same words m files v w a b = (asked_same words a.0 b.0 v w a.2 b.2).1
-
--- a limit, either of the source or of the text
-abbrev IsLimited : List (List ℕ) → Map → Files → LimitName → ℕ → Type 0
-IsLimited words m files what most = IsRefused words m files (Limit what most) ⊎ ((what ≡ FileBytes) × (most ≡ 67108864) × IsTooLong words m files)
-
-module _ (words : List (List ℕ)) (m : Map) (files : Files) where
-  install_not_limited : (what : LimitName) (most : ℕ) → CanInstall words m files → IsLimited words m files what most → ⊥
-  install_not_limited what most i l = ⊎_elim (λ r. chosen_unrefused words m files i.0 i.1 _ i.2.chooses r) (λ long. install_not_long words m files i long.2) l
-
-  more_not_limited : (what : LimitName) (most : ℕ) → WantsMore words m files → IsLimited words m files what most → ⊥
-  more_not_limited what most w l = ⊎_elim (λ r. more_not_refused words m files _ w r) (λ long. more_not_long words m files w long.2) l
-
-  unknown_not_limited : (what : LimitName) (most : ℕ) (word : List ℕ) → NamesUnknown words m files word → IsLimited words m files what most → ⊥
-  unknown_not_limited what most word n l = ⊎_elim (λ r. unknown_unrefused words m files word _ n r) (λ long. long_not_unknown words m files word long.2 n) l
-
-  refused_not_limited : (folder : List ℕ) (why : SourceWhy) (what : LimitName) (most : ℕ) → IsRefused words m files (SourceRefused folder why) → IsLimited words m files what most → ⊥
-  refused_not_limited folder why what most r l =
-      ⊎_elim
-      (λ other. let e : SourceRefused folder why ≡ Limit what most = refused_same words m files _ _ r other in cc)
-      (λ long. long_not_refused words m files _ long.2 r)
-      l
-
-  limits_same : (what other : LimitName) (most more : ℕ) → IsLimited words m files what most → IsLimited words m files other more → Limit what most ≡ Limit other more
-  limits_same what other most more a b =
-      ⊎_elim
-      (λ r. ⊎_elim (λ s. refused_same words m files _ _ r s) (λ long. absurd (long_not_refused words m files _ long.2 r)) b)
-      (λ long. ⊎_elim
-      (λ s. absurd (long_not_refused words m files _ long.2 s))
-      (λ again. let names = long.0 ∙ sym again.0 in let counts = long.1 ∙ sym again.1 in λ i. Limit (names i) (counts i))
-      b)
-      a
-
-  asked_of_install : CanInstall words m files → IsAsked words
-  asked_of_install i = asked_by words i.0 i.2.chooses.word i.2.chooses.asks
-
-  asked_of_unknown : (word : List ℕ) → NamesUnknown words m files word → IsAsked words
-  asked_of_unknown word n = asked_by words n.0 word n.2
-
-  asked_of_limit : (what : LimitName) (most : ℕ) → IsLimited words m files what most → IsAsked words
-  asked_of_limit what most l = ⊎_elim (λ r. r.0) (λ long. asked_by words long.2.0 long.2.2.word long.2.2.asks) l
-
-pub only_answer : (words : List (List ℕ)) (m : Map) (files : Files) (r : Status) → IsAnswer words m files r → (answer : Status) → IsPlainAnswer answer → IsAnswer words m files answer → IsAnswerOrFault answer r
-only_answer words m files Done a Done p b = inl refl
-only_answer words m files Done a NotBuilt p b = absurd (install_not_more words m files a b)
-only_answer words m files Done a Usage p b = absurd (b (asked_of_install words m files a))
-only_answer words m files Done a (SourceRefused place cause) p b = absurd (chosen_unrefused words m files a.0 a.1 _ a.2.chooses b)
-only_answer words m files Done a (Unknown w) p b = absurd (chosen_known words m files a.0 a.1 w a.2.chooses b)
-only_answer words m files Done a (Limit other more) p b = absurd (install_not_limited words m files other more a b)
-only_answer words m files Done a (FolderFault after) p b = absurd p
-only_answer words m files Done a SourceFault p b = absurd p
-only_answer words m files Done a (SinkFault committed) p b = absurd p
-only_answer words m files Done a (NoMemory after) p b = absurd p
-only_answer words m files NotBuilt a Done p b = absurd (install_not_more words m files b a)
-only_answer words m files NotBuilt a NotBuilt p b = inl refl
-only_answer words m files NotBuilt a Usage p b = absurd (b (a.0))
-only_answer words m files NotBuilt a (SourceRefused place cause) p b = absurd (more_not_refused words m files _ a b)
-only_answer words m files NotBuilt a (Unknown w) p b = absurd (more_not_unknown words m files w a b)
-only_answer words m files NotBuilt a (Limit other more) p b = absurd (more_not_limited words m files other more a b)
-only_answer words m files NotBuilt a (FolderFault after) p b = absurd p
-only_answer words m files NotBuilt a SourceFault p b = absurd p
-only_answer words m files NotBuilt a (SinkFault committed) p b = absurd p
-only_answer words m files NotBuilt a (NoMemory after) p b = absurd p
-only_answer words m files Usage a Done p b = absurd (a (asked_of_install words m files b))
-only_answer words m files Usage a NotBuilt p b = absurd (a (b.0))
-only_answer words m files Usage a Usage p b = inl refl
-only_answer words m files Usage a (SourceRefused place cause) p b = absurd (a (b.0))
-only_answer words m files Usage a (Unknown w) p b = absurd (a (asked_of_unknown words m files w b))
-only_answer words m files Usage a (Limit other more) p b = absurd (a (asked_of_limit words m files other more b))
-only_answer words m files Usage a (FolderFault after) p b = absurd p
-only_answer words m files Usage a SourceFault p b = absurd p
-only_answer words m files Usage a (SinkFault committed) p b = absurd p
-only_answer words m files Usage a (NoMemory after) p b = absurd p
-only_answer words m files (SourceRefused folder why) a Done p b = absurd (chosen_unrefused words m files b.0 b.1 _ b.2.chooses a)
-only_answer words m files (SourceRefused folder why) a NotBuilt p b = absurd (more_not_refused words m files _ b a)
-only_answer words m files (SourceRefused folder why) a Usage p b = absurd (b (a.0))
-only_answer words m files (SourceRefused folder why) a (SourceRefused place cause) p b = inl (refused_same words m files _ _ a b)
-only_answer words m files (SourceRefused folder why) a (Unknown w) p b = absurd (unknown_unrefused words m files w _ b a)
-only_answer words m files (SourceRefused folder why) a (Limit other more) p b = absurd (refused_not_limited words m files folder why other more a b)
-only_answer words m files (SourceRefused folder why) a (FolderFault after) p b = absurd p
-only_answer words m files (SourceRefused folder why) a SourceFault p b = absurd p
-only_answer words m files (SourceRefused folder why) a (SinkFault committed) p b = absurd p
-only_answer words m files (SourceRefused folder why) a (NoMemory after) p b = absurd p
-only_answer words m files (Unknown v) a Done p b = absurd (chosen_known words m files b.0 b.1 v b.2.chooses a)
-only_answer words m files (Unknown v) a NotBuilt p b = absurd (more_not_unknown words m files v b a)
-only_answer words m files (Unknown v) a Usage p b = absurd (b (asked_of_unknown words m files v a))
-only_answer words m files (Unknown v) a (SourceRefused place cause) p b = absurd (unknown_unrefused words m files v _ a b)
-only_answer words m files (Unknown v) a (Unknown w) p b = inl (ap (λ (x : List ℕ). Unknown x) (unknown_same words m files v w a b))
-only_answer words m files (Unknown v) a (Limit other more) p b = absurd (unknown_not_limited words m files other more v a b)
-only_answer words m files (Unknown v) a (FolderFault after) p b = absurd p
-only_answer words m files (Unknown v) a SourceFault p b = absurd p
-only_answer words m files (Unknown v) a (SinkFault committed) p b = absurd p
-only_answer words m files (Unknown v) a (NoMemory after) p b = absurd p
-only_answer words m files (Limit what most) a Done p b = absurd (install_not_limited words m files what most b a)
-only_answer words m files (Limit what most) a NotBuilt p b = absurd (more_not_limited words m files what most b a)
-only_answer words m files (Limit what most) a Usage p b = absurd (b (asked_of_limit words m files what most a))
-only_answer words m files (Limit what most) a (SourceRefused place cause) p b = absurd (refused_not_limited words m files place cause what most b a)
-only_answer words m files (Limit what most) a (Unknown w) p b = absurd (unknown_not_limited words m files what most w b a)
-only_answer words m files (Limit what most) a (Limit other more) p b = inl (limits_same words m files what other most more a b)
-only_answer words m files (Limit what most) a (FolderFault after) p b = absurd p
-only_answer words m files (Limit what most) a SourceFault p b = absurd p
-only_answer words m files (Limit what most) a (SinkFault committed) p b = absurd p
-only_answer words m files (Limit what most) a (NoMemory after) p b = absurd p
-only_answer words m files (FolderFault after) a answer p b = inr (λ x. x)
-only_answer words m files SourceFault a answer p b = inr (λ x. x)
-only_answer words m files (SinkFault committed) a answer p b = inr (λ x. x)
-only_answer words m files (NoMemory after) a answer p b = inr (λ x. x)
+failed_answer words m files profile unit F K s i h = failed_answer_at (end_of s) words m files profile unit F K s i h
 
 -- ---- what is left
 
--- a status after which the folder is as it was
-abbrev pub IsUnchanging : Status → Type 0
-IsUnchanging status = (words : List (List ℕ)) (old new : Map) (files : Files) → new ≡ old → Leaves words old files status new
+-- A stage before the plan leaves the folder as it was.
+unchanged_at : (end : End) (W F S G : Type 0) → StopsAt W F S G end → (words : List (List ℕ)) (old new : Map) (files : Files) → new ≡ old → LeavesAt words old files end new
+unchanged_at AtCommit W F S G h words old new files same = absurd h
+unchanged_at (AtRefusal reason wording) W F S G h words old new files same = same
+unchanged_at (AtFolderFault Unchanged) W F S G h words old new files same = same
+unchanged_at (AtFolderFault Recover) W F S G h words old new files same = absurd h
+unchanged_at (AtFolderFault Either) W F S G h words old new files same = absurd h
+unchanged_at (AtMemoryFault Unchanged) W F S G h words old new files same = same
+unchanged_at (AtMemoryFault Recover) W F S G h words old new files same = absurd h
+unchanged_at (AtMemoryFault Either) W F S G h words old new files same = absurd h
+unchanged_at (AtSinkFault committed) W F S G h words old new files same = absurd h
 
-unchanging_sink : IsUnchanging (SinkFault None)
-unchanging_sink words old new files e = e
+pub stopped_leaves : (W F S : Type 0) (G : Status → Type 0) (failed : Type 0) (s r : Status) → Stops W F S G s → Ends s r failed → (words : List (List ℕ)) (old new : Map) (files : Files) → new ≡ old → Leaves words old files r new
+stopped_leaves W F S G failed s r h e words old new files same =
+    ended (λ x. Leaves words old files x new) failed s r e (unchanged_at (end_of s) W F S (G s) h words old new files same) (λ k. same) same
 
-unchanging_memory : IsUnchanging (NoMemory Unchanged)
-unchanging_memory words old new files e = e
-
-pub stopped_leaves : (W F S : Type 0) (G : Status → Type 0) (failed : Type 0) (s r : Status) → Stops W F S G s → Ends s r failed → IsUnchanging r
-stopped_leaves W F S G failed Done r h e = absurd h
-stopped_leaves W F S G failed NotBuilt r h e = ⊎_elim (λ p. subst IsUnchanging (sym p) (λ words old new files same. same)) (λ p. subst IsUnchanging (sym p.0) unchanging_sink) e
-stopped_leaves W F S G failed Usage r h e = ⊎_elim (λ p. subst IsUnchanging (sym p) (λ words old new files same. same)) (λ p. subst IsUnchanging (sym p.0) unchanging_sink) e
-stopped_leaves W F S G failed (SourceRefused folder why) r h e =
-    ⊎_elim (λ q. ⊎_elim (λ p. subst IsUnchanging (sym p) (λ words old new files same. same)) (λ p. subst IsUnchanging (sym p.0) unchanging_sink) q) (λ p. subst IsUnchanging (sym p) unchanging_memory) e
-stopped_leaves W F S G failed (Unknown word) r h e =
-    ⊎_elim (λ q. ⊎_elim (λ p. subst IsUnchanging (sym p) (λ words old new files same. same)) (λ p. subst IsUnchanging (sym p.0) unchanging_sink) q) (λ p. subst IsUnchanging (sym p) unchanging_memory) e
-stopped_leaves W F S G failed (Limit what most) r h e =
-    ⊎_elim (λ q. ⊎_elim (λ p. subst IsUnchanging (sym p) (λ words old new files same. same)) (λ p. subst IsUnchanging (sym p.0) unchanging_sink) q) (λ p. subst IsUnchanging (sym p) unchanging_memory) e
-stopped_leaves W F S G failed (FolderFault Unchanged) r h e = subst IsUnchanging (sym e) (λ words old new files same. same)
-stopped_leaves W F S G failed (FolderFault Recover) r h e = absurd h
-stopped_leaves W F S G failed (FolderFault Either) r h e = absurd h
-stopped_leaves W F S G failed SourceFault r h e = ⊎_elim (λ p. subst IsUnchanging (sym p) (λ words old new files same. same)) (λ p. subst IsUnchanging (sym p.0) unchanging_sink) e
-stopped_leaves W F S G failed (SinkFault committed) r h e = absurd h
-stopped_leaves W F S G failed (NoMemory Unchanged) r h e = subst IsUnchanging (sym e) unchanging_memory
-stopped_leaves W F S G failed (NoMemory Recover) r h e = absurd h
-stopped_leaves W F S G failed (NoMemory Either) r h e = absurd h
+failed_leaves_at : (end : End) (words : List (List ℕ)) (m : Map) (files : Files) (profile : List ℕ) (unit : Unit) (F K : Type 0) (new : Map) → Installs words m files profile unit → FailsAt F K end → LeavesFailedAt profile unit m end new → LeavesAt words m files end new
+failed_leaves_at AtCommit words m files profile unit F K new i h l = absurd h
+failed_leaves_at (AtRefusal reason wording) words m files profile unit F K new i h l = absurd h
+failed_leaves_at (AtFolderFault Unchanged) words m files profile unit F K new i h l = absurd h
+failed_leaves_at (AtFolderFault Recover) words m files profile unit F K new i h l = (profile, unit, i, l)
+failed_leaves_at (AtFolderFault Either) words m files profile unit F K new i h l = absurd h
+failed_leaves_at (AtMemoryFault Unchanged) words m files profile unit F K new i h l = l
+failed_leaves_at (AtMemoryFault Recover) words m files profile unit F K new i h l = (profile, unit, i, l)
+failed_leaves_at (AtMemoryFault Either) words m files profile unit F K new i h l = absurd h
+failed_leaves_at (AtSinkFault None) words m files profile unit F K new i h l = l
+failed_leaves_at (AtSinkFault (Some number)) words m files profile unit F K new i h l = (profile, unit, i, l)
 
 pub failed_leaves : (words : List (List ℕ)) (m : Map) (files : Files) (profile : List ℕ) (unit : Unit) (F K failed : Type 0) (s r : Status) (new : Map) → Installs words m files profile unit → Fails F K s → Ends s r failed → LeavesFailed profile unit m s new → Leaves words m files r new
-failed_leaves words m files profile unit F K failed Done r new i h e l = absurd h
-failed_leaves words m files profile unit F K failed NotBuilt r new i h e l = absurd h
-failed_leaves words m files profile unit F K failed Usage r new i h e l = absurd h
-failed_leaves words m files profile unit F K failed (SourceRefused folder why) r new i h e l = absurd h
-failed_leaves words m files profile unit F K failed (Unknown word) r new i h e l = absurd h
-failed_leaves words m files profile unit F K failed (Limit what most) r new i h e l = absurd h
-failed_leaves words m files profile unit F K failed (FolderFault Unchanged) r new i h e l = absurd h
-failed_leaves words m files profile unit F K failed (FolderFault Recover) r new i h e l = let P : Status → Type 0 = λ x. Leaves words m files x new in subst P (sym e) (profile, unit, i, l)
-failed_leaves words m files profile unit F K failed (FolderFault Either) r new i h e l = absurd h
-failed_leaves words m files profile unit F K failed SourceFault r new i h e l = absurd h
-failed_leaves words m files profile unit F K failed (SinkFault None) r new i h e l = let P : Status → Type 0 = λ x. Leaves words m files x new in subst P (sym e) l
-failed_leaves words m files profile unit F K failed (SinkFault (Some number)) r new i h e l = let P : Status → Type 0 = λ x. Leaves words m files x new in subst P (sym e) (profile, unit, i, l)
-failed_leaves words m files profile unit F K failed (NoMemory Unchanged) r new i h e l = let P : Status → Type 0 = λ x. Leaves words m files x new in subst P (sym e) l
-failed_leaves words m files profile unit F K failed (NoMemory Recover) r new i h e l = let P : Status → Type 0 = λ x. Leaves words m files x new in subst P (sym e) (profile, unit, i, l)
-failed_leaves words m files profile unit F K failed (NoMemory Either) r new i h e l = absurd h
+failed_leaves words m files profile unit F K failed s r new i h e l =
+    failed_stays_so (λ x. Leaves words m files x new) F K failed s r h e (failed_leaves_at (end_of s) words m files profile unit F K new i h l)
 
 -- ---- what is printed
 
@@ -317,84 +114,64 @@ written_with_memory K words m files s r lines a whole w =
     let P : Status → Type 0 = λ x. Prints K words m files x lines in
     ⊎_elim (λ q. written_or_failed K words m files s r lines a whole q) (λ p. subst P (sym p.0) (inl p.1)) w
 
-pub stopped_prints : (words : List (List ℕ)) (m : Map) (files : Files) (W F S : Type 0) (G : Status → Type 0) (failed : Type 0) (s r : Status) (lines : List ℕ) → IsAnswer words m files s → Stops W F S G s → Ends s r failed → WritesRefusal failed s r lines → Prints failed words m files r lines
-stopped_prints words m files W F S G failed Done r lines a h e w = absurd h
-stopped_prints words m files W F S G failed NotBuilt r lines a h e w = written_or_failed failed words m files NotBuilt r lines a (λ x. x) w
-stopped_prints words m files W F S G failed Usage r lines a h e w = written_or_failed failed words m files Usage r lines a (λ x. x) w
-stopped_prints words m files W F S G failed (SourceRefused folder why) r lines a h e w = written_with_memory failed words m files (SourceRefused folder why) r lines a (λ x. x) w
-stopped_prints words m files W F S G failed (Unknown word) r lines a h e w = written_with_memory failed words m files (Unknown word) r lines a (λ x. x) w
-stopped_prints words m files W F S G failed (Limit what most) r lines a h e w = written_with_memory failed words m files (Limit what most) r lines a (λ x. x) w
-stopped_prints words m files W F S G failed (FolderFault Unchanged) r lines a h e w =
-    let P : Status → Type 0 = λ x. Prints failed words m files x lines in subst P (sym e) w
-stopped_prints words m files W F S G failed (FolderFault Recover) r lines a h e w = absurd h
-stopped_prints words m files W F S G failed (FolderFault Either) r lines a h e w = absurd h
-stopped_prints words m files W F S G failed SourceFault r lines a h e w = written_or_failed failed words m files SourceFault r lines a (λ x. x) w
-stopped_prints words m files W F S G failed (SinkFault committed) r lines a h e w = absurd h
-stopped_prints words m files W F S G failed (NoMemory Unchanged) r lines a h e w =
-    let P : Status → Type 0 = λ x. Prints failed words m files x lines in subst P (sym e) (inl w)
-stopped_prints words m files W F S G failed (NoMemory Recover) r lines a h e w = absurd h
-stopped_prints words m files W F S G failed (NoMemory Either) r lines a h e w = absurd h
+-- What is written of an end that is that of the status is what is printed with it.
+stopped_prints_at : (end : End) (words : List (List ℕ)) (m : Map) (files : Files) (W F S G failed : Type 0) (s r : Status) (lines : List ℕ) → (PrintsAt failed words m files s end lines → Prints failed words m files s lines) → IsAnswer words m files s → StopsAt W F S G end → EndsAt end s r failed → WritesRefusalAt failed end s r lines → Prints failed words m files r lines
+stopped_prints_at AtCommit words m files W F S G failed s r lines own a h e w = absurd h
+stopped_prints_at (AtRefusal reason Fixed) words m files W F S G failed s r lines own a h e w = written_or_failed failed words m files s r lines a own w
+stopped_prints_at (AtRefusal reason MadeUp) words m files W F S G failed s r lines own a h e w = written_with_memory failed words m files s r lines a own w
+stopped_prints_at (AtFolderFault Unchanged) words m files W F S G failed s r lines own a h e w =
+    let P : Status → Type 0 = λ x. Prints failed words m files x lines in subst P (sym e) (own w)
+stopped_prints_at (AtFolderFault Recover) words m files W F S G failed s r lines own a h e w = absurd h
+stopped_prints_at (AtFolderFault Either) words m files W F S G failed s r lines own a h e w = absurd h
+stopped_prints_at (AtMemoryFault Unchanged) words m files W F S G failed s r lines own a h e w =
+    let P : Status → Type 0 = λ x. Prints failed words m files x lines in subst P (sym e) (own (inl w))
+stopped_prints_at (AtMemoryFault Recover) words m files W F S G failed s r lines own a h e w = absurd h
+stopped_prints_at (AtMemoryFault Either) words m files W F S G failed s r lines own a h e w = absurd h
+stopped_prints_at (AtSinkFault committed) words m files W F S G failed s r lines own a h e w = absurd h
 
-pub failed_prints : (words : List (List ℕ)) (m : Map) (files : Files) (profile : List ℕ) (unit : Unit) (F K failed L : Type 0) (s r : Status) (lines more : List ℕ) → (failed → L) → Installs words m files profile unit → Fails F K s → Ends s r failed → PrintsFailed profile unit s lines → WritesRefusal failed s r more → Prints L words m files r (lines ++ more)
-failed_prints words m files profile unit F K failed L Done r lines more later i h e p w = absurd h
-failed_prints words m files profile unit F K failed L NotBuilt r lines more later i h e p w = absurd h
-failed_prints words m files profile unit F K failed L Usage r lines more later i h e p w = absurd h
-failed_prints words m files profile unit F K failed L (SourceRefused folder why) r lines more later i h e p w = absurd h
-failed_prints words m files profile unit F K failed L (Unknown word) r lines more later i h e p w = absurd h
-failed_prints words m files profile unit F K failed L (Limit what most) r lines more later i h e p w = absurd h
-failed_prints words m files profile unit F K failed L (FolderFault Unchanged) r lines more later i h e p w = absurd h
-failed_prints words m files profile unit F K failed L (FolderFault Recover) r lines more later i h e p w =
-    let P : Status → Type 0 = λ x. Prints L words m files x (lines ++ more) in
-    subst P (sym e) (lines, more, (profile, unit, i, p), fault_later failed L (FolderFault Recover) more later w, refl)
-failed_prints words m files profile unit F K failed L (FolderFault Either) r lines more later i h e p w = absurd h
-failed_prints words m files profile unit F K failed L SourceFault r lines more later i h e p w = absurd h
-failed_prints words m files profile unit F K failed L (SinkFault None) r lines more later i h e p w =
-    let P : Status → Type 0 = λ x. Prints L words m files x (lines ++ more) in
+pub stopped_prints : (words : List (List ℕ)) (m : Map) (files : Files) (W F S : Type 0) (G : Status → Type 0) (failed : Type 0) (s r : Status) (lines : List ℕ) → IsAnswer words m files s → Stops W F S G s → Ends s r failed → WritesRefusal failed s r lines → Prints failed words m files r lines
+stopped_prints words m files W F S G failed s r lines a h e w =
+    stopped_prints_at (end_of s) words m files W F S (G s) failed s r lines (λ x. x) a h e w
+
+-- the plan, and behind it what was written of the status
+failed_prints_at : (end : End) (words : List (List ℕ)) (m : Map) (files : Files) (profile : List ℕ) (unit : Unit) (F K failed L : Type 0) (s r : Status) (lines more : List ℕ) → (failed → L) → Installs words m files profile unit → FailsAt F K end → PrintsFailedAt profile unit end lines → WritesRefusalAt failed end s r more → PrintsAt L words m files s end (lines ++ more)
+failed_prints_at AtCommit words m files profile unit F K failed L s r lines more later i h p w = absurd h
+failed_prints_at (AtRefusal reason wording) words m files profile unit F K failed L s r lines more later i h p w = absurd h
+failed_prints_at (AtFolderFault Unchanged) words m files profile unit F K failed L s r lines more later i h p w = absurd h
+failed_prints_at (AtFolderFault Recover) words m files profile unit F K failed L s r lines more later i h p w =
+    (lines, more, (profile, unit, i, p), fault_later failed L s more later w, refl)
+failed_prints_at (AtFolderFault Either) words m files profile unit F K failed L s r lines more later i h p w = absurd h
+failed_prints_at (AtMemoryFault Unchanged) words m files profile unit F K failed L s r lines more later i h p w =
+    let Q : List ℕ → Type 0 = λ x. IsFaultPrinted L s (x ++ more) in
+    let line : IsFaultPrinted L s more = fault_later failed L s more later w in
+    ⊎_elim (λ x. inl (subst Q (sym x) line)) (λ x. inr (lines, more, (profile, unit, i, x), line, refl)) p
+failed_prints_at (AtMemoryFault Recover) words m files profile unit F K failed L s r lines more later i h p w =
+    (lines, more, (profile, unit, i, p), fault_later failed L s more later w, refl)
+failed_prints_at (AtMemoryFault Either) words m files profile unit F K failed L s r lines more later i h p w = absurd h
+failed_prints_at (AtSinkFault None) words m files profile unit F K failed L s r lines more later i h p w =
     let all : lines ++ more ≡ lines = ap (λ (x : List ℕ). lines ++ x) w ∙ append-nil lines in
     let Q : List ℕ → Type 0 = λ x. IsFront x (plan_lines profile unit) in
-    subst P (sym e) (inr (profile, unit, i, subst Q (sym all) p))
-failed_prints words m files profile unit F K failed L (SinkFault (Some number)) r lines more later i h e p w =
-    let P : Status → Type 0 = λ x. Prints L words m files x (lines ++ more) in
+    inr (profile, unit, i, subst Q (sym all) p)
+failed_prints_at (AtSinkFault (Some number)) words m files profile unit F K failed L s r lines more later i h p w =
     let all : lines ++ more ≡ lines = ap (λ (x : List ℕ). lines ++ x) w ∙ append-nil lines in
-    subst P (sym e) (profile, unit, p.0, i, p.1, all ∙ p.2)
-failed_prints words m files profile unit F K failed L (NoMemory Unchanged) r lines more later i h e p w =
-    let P : Status → Type 0 = λ x. Prints L words m files x (lines ++ more) in
-    let Q : List ℕ → Type 0 = λ x. IsFaultPrinted L (NoMemory Unchanged) (x ++ more) in
-    let line : IsFaultPrinted L (NoMemory Unchanged) more = fault_later failed L (NoMemory Unchanged) more later w in
-    subst P (sym e) (⊎_elim (λ x. inl (subst Q (sym x) line)) (λ x. inr (lines, more, (profile, unit, i, x), line, refl)) p)
-failed_prints words m files profile unit F K failed L (NoMemory Recover) r lines more later i h e p w =
-    let P : Status → Type 0 = λ x. Prints L words m files x (lines ++ more) in
-    subst P (sym e) (lines, more, (profile, unit, i, p), fault_later failed L (NoMemory Recover) more later w, refl)
-failed_prints words m files profile unit F K failed L (NoMemory Either) r lines more later i h e p w = absurd h
+    (profile, unit, p.0, i, p.1, all ∙ p.2)
+
+pub failed_prints : (words : List (List ℕ)) (m : Map) (files : Files) (profile : List ℕ) (unit : Unit) (F K failed L : Type 0) (s r : Status) (lines more : List ℕ) → (failed → L) → Installs words m files profile unit → Fails F K s → Ends s r failed → PrintsFailed profile unit s lines → WritesRefusal failed s r more → Prints L words m files r (lines ++ more)
+failed_prints words m files profile unit F K failed L s r lines more later i h e p w =
+    failed_stays_so (λ x. Prints L words m files x (lines ++ more)) F K failed s r h e (failed_prints_at (end_of s) words m files profile unit F K failed L s r lines more later i h p w)
 
 -- ---- what is committed
 
+uncommitted_at : (end : End) (W F S G P : Type 0) → StopsAt W F S G end → OnCommittedEnd end P
+uncommitted_at AtCommit W F S G P h = absurd h
+uncommitted_at (AtRefusal reason wording) W F S G P h = tt
+uncommitted_at (AtFolderFault left) W F S G P h = tt
+uncommitted_at (AtMemoryFault left) W F S G P h = tt
+uncommitted_at (AtSinkFault committed) W F S G P h = absurd h
+
 pub stopped_uncommitted : (W F S : Type 0) (G : Status → Type 0) (failed P : Type 0) (s r : Status) → Stops W F S G s → Ends s r failed → OnCommitted r P
-stopped_uncommitted W F S G failed P Done r h e = absurd h
-stopped_uncommitted W F S G failed P NotBuilt r h e = let Q : Status → Type 0 = λ x. OnCommitted x P in ⊎_elim (λ p. subst Q (sym p) tt) (λ p. subst Q (sym p.0) tt) e
-stopped_uncommitted W F S G failed P Usage r h e = let Q : Status → Type 0 = λ x. OnCommitted x P in ⊎_elim (λ p. subst Q (sym p) tt) (λ p. subst Q (sym p.0) tt) e
-stopped_uncommitted W F S G failed P (SourceRefused folder why) r h e =
-    let Q : Status → Type 0 = λ x. OnCommitted x P in
-    ⊎_elim (λ q. ⊎_elim (λ p. subst Q (sym p) tt) (λ p. subst Q (sym p.0) tt) q) (λ p. subst Q (sym p) tt) e
-stopped_uncommitted W F S G failed P (Unknown word) r h e =
-    let Q : Status → Type 0 = λ x. OnCommitted x P in
-    ⊎_elim (λ q. ⊎_elim (λ p. subst Q (sym p) tt) (λ p. subst Q (sym p.0) tt) q) (λ p. subst Q (sym p) tt) e
-stopped_uncommitted W F S G failed P (Limit what most) r h e =
-    let Q : Status → Type 0 = λ x. OnCommitted x P in
-    ⊎_elim (λ q. ⊎_elim (λ p. subst Q (sym p) tt) (λ p. subst Q (sym p.0) tt) q) (λ p. subst Q (sym p) tt) e
-stopped_uncommitted W F S G failed P (FolderFault after) r h e = let Q : Status → Type 0 = λ x. OnCommitted x P in subst Q (sym e) tt
-stopped_uncommitted W F S G failed P SourceFault r h e = let Q : Status → Type 0 = λ x. OnCommitted x P in ⊎_elim (λ p. subst Q (sym p) tt) (λ p. subst Q (sym p.0) tt) e
-stopped_uncommitted W F S G failed P (SinkFault committed) r h e = absurd h
-stopped_uncommitted W F S G failed P (NoMemory after) r h e = let Q : Status → Type 0 = λ x. OnCommitted x P in subst Q (sym e) tt
+stopped_uncommitted W F S G failed P s r h e =
+    ended (λ x. OnCommitted x P) failed s r e (uncommitted_at (end_of s) W F S (G s) P h) (λ k. tt) tt
 
 pub failed_committed : (F K failed P : Type 0) (s r : Status) → Fails F K s → Ends s r failed → OnCommitted s P → OnCommitted r P
-failed_committed F K failed P Done r h e c = absurd h
-failed_committed F K failed P NotBuilt r h e c = absurd h
-failed_committed F K failed P Usage r h e c = absurd h
-failed_committed F K failed P (SourceRefused folder why) r h e c = absurd h
-failed_committed F K failed P (Unknown word) r h e c = absurd h
-failed_committed F K failed P (Limit what most) r h e c = absurd h
-failed_committed F K failed P (FolderFault after) r h e c = let Q : Status → Type 0 = λ x. OnCommitted x P in subst Q (sym e) tt
-failed_committed F K failed P SourceFault r h e c = absurd h
-failed_committed F K failed P (SinkFault committed) r h e c = let Q : Status → Type 0 = λ x. OnCommitted x P in subst Q (sym e) c
-failed_committed F K failed P (NoMemory after) r h e c = let Q : Status → Type 0 = λ x. OnCommitted x P in subst Q (sym e) tt
+failed_committed F K failed P s r h e c = failed_stays_so (λ x. OnCommitted x P) F K failed s r h e c

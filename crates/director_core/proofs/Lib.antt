@@ -6,6 +6,7 @@ pub mod Layings
 pub mod LookUps
 pub mod Maps
 pub mod Names
+pub mod OnlyAnswer
 pub mod Reports
 pub mod Roots
 pub mod RunSteps

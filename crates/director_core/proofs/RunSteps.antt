@@ -1,5 +1,5 @@
 -- What a command leaves where its plan could not be performed to its end, and why it was told so.
-use Rattle.std.proofs.Common.{◌≡◌, ◌≤◌, ℕ, inl, inr, ⊎_elim, List, Option, Some, None, sym, subst, arith}
+use Rattle.std.proofs.Common.{◌≡◌, ◌≤◌, ℕ, inl, inr, ⊎_elim, List, Option, Some, None, subst, arith}
 use Rattle.folder_core.specs.Cause.{Rose}
 use Rattle.folder_core.specs.Folder.{Told, Map}
 use Rattle.folder_core.specs.Step.{OnTold, Step}
@@ -7,14 +7,14 @@ use Rattle.folder_core.specs.Tree.{Files}
 use Rattle.folder_core.specs.declared.node.After.TheVariants.{Unchanged, Recover, Either}
 use Rattle.unit_model.specs.declared.unit.Unit.{Unit}
 use Rattle.director_words.specs.declared.status.Status.{Status}
-use Rattle.director_words.specs.declared.status.Status.TheVariants.{Done, NotBuilt, Usage, SourceRefused, Unknown, FolderFault, SourceFault, SinkFault, Limit, NoMemory}
 use Rattle.director_core.specs.Answer.{Installs, Leaves}
-use Rattle.director_core.specs.Causes.{HasCauses}
+use Rattle.director_core.specs.Causes.{EndHasCauses, HasCauses}
+use Rattle.director_core.specs.Ends.{NoRequest, OwnCause, FailedSource, End, AtCommit, AtRefusal, AtFolderFault, AtMemoryFault, AtSinkFault, end_of}
 use Rattle.director_core.specs.Performs.{Fails, LeavesFailed}
-use Rattle.director_core.specs.Refuses.{Ends, EndsOrFails, EndsWithMemory}
-use Rattle.director_core.specs.Stops.{Stops}
+use Rattle.director_core.specs.Refuses.{Ends}
+use Rattle.director_core.specs.Stops.{StopsAt, Stops}
 use Rattle.director_core.proofs.Decisions.{stops_weaker}
-use Rattle.director_core.proofs.Endings.{failed_leaves}
+use Rattle.director_core.proofs.Endings.{ended, failed_leaves}
 
 -- the folder is told before the decision, after it and after the plan
 pub failed_stays : (a c d : Option Told) (b : Option Files) (words : List (List ℕ)) (profile : List ℕ) (unit : Unit) (F K failed : Type 0) (s r : Status) → Fails F K s → Ends s r failed
@@ -38,28 +38,22 @@ failed_stays (Some t) (Some u) (Some v) (Some files) words profile unit F K fail
 pub rose_later : (a b c : ℕ) → a ≤ b → Rose b c → Rose a c
 rose_later a b c le rose = ⊎_elim (λ up. inl (omega (arith, le, up))) (λ last. inr last) rose
 
--- a status that has no cause of its own
-ended_shortly : (F S K : Type 0) (s r : Status) → HasCauses F S K s → EndsOrFails s r K → HasCauses F S K r
-ended_shortly F S K s r own e = ⊎_elim (λ p. subst (HasCauses F S K) (sym p) own) (λ p. subst (HasCauses F S K) (sym p.0) p.1) e
-
-ended_at_length : (F S K : Type 0) (s r : Status) → HasCauses F S K s → EndsWithMemory s r K → HasCauses F S K r
-ended_at_length F S K s r own e = ⊎_elim (λ q. ended_shortly F S K s r own q) (λ p. subst (HasCauses F S K) (sym p) tt) e
+-- A stage before the plan has the causes of its end.
+stopped_causes_at : (end : End) (asked F S K G : Type 0) → StopsAt (asked → ⊥) (asked × F) (asked × S) G end → EndHasCauses F S K end
+stopped_causes_at AtCommit asked F S K G h = absurd h
+stopped_causes_at (AtRefusal NoRequest wording) asked F S K G h = tt
+stopped_causes_at (AtRefusal OwnCause wording) asked F S K G h = tt
+stopped_causes_at (AtRefusal FailedSource wording) asked F S K G h = h.1
+stopped_causes_at (AtFolderFault Unchanged) asked F S K G h = h.1
+stopped_causes_at (AtFolderFault Recover) asked F S K G h = absurd h
+stopped_causes_at (AtFolderFault Either) asked F S K G h = absurd h
+stopped_causes_at (AtMemoryFault Unchanged) asked F S K G h = tt
+stopped_causes_at (AtMemoryFault Recover) asked F S K G h = absurd h
+stopped_causes_at (AtMemoryFault Either) asked F S K G h = absurd h
+stopped_causes_at (AtSinkFault committed) asked F S K G h = absurd h
 
 pub stopped_causes : (asked F S K : Type 0) (G : Status → Type 0) (s r : Status) → Stops (asked → ⊥) (asked × F) (asked × S) G s → Ends s r K → HasCauses F S K r
-stopped_causes asked F S K G Done r h e = absurd h
-stopped_causes asked F S K G NotBuilt r h e = ended_shortly F S K NotBuilt r tt e
-stopped_causes asked F S K G Usage r h e = ended_shortly F S K Usage r tt e
-stopped_causes asked F S K G (SourceRefused folder why) r h e = ended_at_length F S K (SourceRefused folder why) r tt e
-stopped_causes asked F S K G (Unknown word) r h e = ended_at_length F S K (Unknown word) r tt e
-stopped_causes asked F S K G (Limit what most) r h e = ended_at_length F S K (Limit what most) r tt e
-stopped_causes asked F S K G (FolderFault Unchanged) r h e = subst (HasCauses F S K) (sym e) h.1
-stopped_causes asked F S K G (FolderFault Recover) r h e = absurd h
-stopped_causes asked F S K G (FolderFault Either) r h e = absurd h
-stopped_causes asked F S K G SourceFault r h e = ended_shortly F S K SourceFault r h.1 e
-stopped_causes asked F S K G (SinkFault committed) r h e = absurd h
-stopped_causes asked F S K G (NoMemory Unchanged) r h e = subst (HasCauses F S K) (sym e) tt
-stopped_causes asked F S K G (NoMemory Recover) r h e = absurd h
-stopped_causes asked F S K G (NoMemory Either) r h e = absurd h
+stopped_causes asked F S K G s r h e = ended (HasCauses F S K) K s r e (stopped_causes_at (end_of s) asked F S K (G s) h) (λ k. k) tt
 
 -- ---- the stages of a decision: the words asked for an install
 

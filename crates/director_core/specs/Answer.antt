@@ -8,9 +8,10 @@ use Rattle.unit_model.specs.declared.unit.Unit.{Unit}
 use Rattle.director_words.specs.Request.{Asks}
 use Rattle.director_words.specs.declared.request.Request.TheVariants.{Install}
 use Rattle.director_words.specs.declared.status.Status.{Status}
-use Rattle.director_words.specs.declared.status.Status.TheVariants.{Done, NotBuilt, Usage, SourceRefused, Unknown, FolderFault, SourceFault, SinkFault, Limit, NoMemory}
+use Rattle.director_words.specs.declared.status.Status.TheVariants.{NotBuilt, Usage, SourceRefused, Unknown, SinkFault, Limit, NoMemory}
 use Rattle.director_words.specs.declared.limit.LimitName.TheVariants.{FileBytes}
 use Rattle.director_core.specs.Built.{IsBuilt}
+use Rattle.director_core.specs.Ends.{NoRequest, OwnCause, FailedSource, End, AtCommit, AtRefusal, AtFolderFault, AtMemoryFault, AtSinkFault, end_of}
 use Rattle.director_core.specs.FirstInstall.{first_state, first_touches}
 use Rattle.director_core.specs.Found.{Finds, FindsNone}
 use Rattle.director_core.specs.Laid.{IsBare, IsBegun, SameElsewhere, bare, laid}
@@ -76,37 +77,47 @@ NamesUnknown words m files word =
     (profile : List ℕ) × (units : List Unit) × AsksFor words profile word × IsBare m × SourceGives files (Ok units)
     × FindsNone word units
 
--- Why this answer comes. A fault and want of memory have their causes elsewhere; they say how far the command was.
-abbrev pub IsAnswer : List (List ℕ) → Map → Files → Status → Type 0
-IsAnswer words m files Done = CanInstall words m files
-IsAnswer words m files NotBuilt = WantsMore words m files
-IsAnswer words m files Usage = ¬ (IsAsked words)
-IsAnswer words m files (SourceRefused folder why) = IsRefused words m files (SourceRefused folder why)
-IsAnswer words m files (Unknown word) = NamesUnknown words m files word
-IsAnswer words m files (FolderFault Unchanged) = IsAsked words
-IsAnswer words m files (FolderFault Recover) = CanInstall words m files
-IsAnswer words m files (FolderFault Either) = ⊥
-IsAnswer words m files SourceFault = IsAsked words × IsBare m
-IsAnswer words m files (SinkFault None) = ⊤
-IsAnswer words m files (SinkFault (Some number)) = (number ≡ 1) × CanInstall words m files
-IsAnswer words m files (Limit what most) =
+-- Why a status with a cause of its own comes.
+abbrev pub IsCause : List (List ℕ) → Map → Files → Status → Type 0
+IsCause words m files NotBuilt = WantsMore words m files
+IsCause words m files (SourceRefused folder why) = IsRefused words m files (SourceRefused folder why)
+IsCause words m files (Unknown word) = NamesUnknown words m files word
+IsCause words m files (Limit what most) =
     IsRefused words m files (Limit what most) ⊎ ((what ≡ FileBytes) × (most ≡ 67108864) × IsTooLong words m files)
-IsAnswer words m files (NoMemory Unchanged) = ⊤
-IsAnswer words m files (NoMemory Recover) = CanInstall words m files
-IsAnswer words m files (NoMemory Either) = ⊥
+IsCause words m files other = ⊥
 
--- what a command answers where nothing of the outside fails and memory is there
+-- A fault and want of memory have their causes elsewhere; they say how far the command was.
+abbrev pub IsAnswerAt : List (List ℕ) → Map → Files → Status → End → Type 0
+IsAnswerAt words m files status AtCommit = CanInstall words m files
+IsAnswerAt words m files status (AtRefusal NoRequest wording) = ¬ (IsAsked words)
+IsAnswerAt words m files status (AtRefusal OwnCause wording) = IsCause words m files status
+IsAnswerAt words m files status (AtRefusal FailedSource wording) = IsAsked words × IsBare m
+IsAnswerAt words m files status (AtFolderFault Unchanged) = IsAsked words
+IsAnswerAt words m files status (AtFolderFault Recover) = CanInstall words m files
+IsAnswerAt words m files status (AtFolderFault Either) = ⊥
+IsAnswerAt words m files status (AtMemoryFault Unchanged) = ⊤
+IsAnswerAt words m files status (AtMemoryFault Recover) = CanInstall words m files
+IsAnswerAt words m files status (AtMemoryFault Either) = ⊥
+IsAnswerAt words m files status (AtSinkFault None) = ⊤
+IsAnswerAt words m files status (AtSinkFault (Some number)) = (number ≡ 1) × CanInstall words m files
+
+-- why this answer comes
+abbrev pub IsAnswer : List (List ℕ) → Map → Files → Status → Type 0
+IsAnswer words m files status = IsAnswerAt words m files status (end_of status)
+
+-- how a command ends where nothing of the outside fails and memory is there
+abbrev pub IsPlainEnd : End → Type 0
+IsPlainEnd AtCommit = ⊤
+IsPlainEnd (AtRefusal NoRequest wording) = ⊤
+IsPlainEnd (AtRefusal OwnCause wording) = ⊤
+IsPlainEnd (AtRefusal FailedSource wording) = ⊥
+IsPlainEnd (AtFolderFault left) = ⊥
+IsPlainEnd (AtMemoryFault left) = ⊥
+IsPlainEnd (AtSinkFault committed) = ⊥
+
+-- what it answers then
 abbrev pub IsPlainAnswer : Status → Type 0
-IsPlainAnswer Done = ⊤
-IsPlainAnswer NotBuilt = ⊤
-IsPlainAnswer Usage = ⊤
-IsPlainAnswer (SourceRefused folder why) = ⊤
-IsPlainAnswer (Unknown word) = ⊤
-IsPlainAnswer (Limit what most) = ⊤
-IsPlainAnswer (FolderFault after) = ⊥
-IsPlainAnswer SourceFault = ⊥
-IsPlainAnswer (SinkFault committed) = ⊥
-IsPlainAnswer (NoMemory after) = ⊥
+IsPlainAnswer status = IsPlainEnd (end_of status)
 
 -- The answer is the one, or a fault or want of memory came before it.
 abbrev pub IsAnswerOrFault : Status → Status → Type 0
@@ -132,21 +143,19 @@ IsKeptElsewhere words old files new =
     (profile : List ℕ) × (unit : Unit) × Installs words old files profile unit
     × SameElsewhere (first_touches profile unit) old new
 
--- what the folder holds then
-abbrev pub Leaves : List (List ℕ) → Map → Files → Status → Map → Type 0
-Leaves words old files Done new = HasInstalled words old files new
-Leaves words old files (SinkFault (Some number)) new = HasInstalled words old files new
+-- what the folder holds at each end
+abbrev pub LeavesAt : List (List ℕ) → Map → Files → End → Map → Type 0
+LeavesAt words old files AtCommit new = HasInstalled words old files new
+LeavesAt words old files (AtRefusal reason wording) new = new ≡ old
+LeavesAt words old files (AtFolderFault Unchanged) new = new ≡ old
 -- a recovery has to follow
-Leaves words old files (FolderFault Recover) new = IsKeptElsewhere words old files new
-Leaves words old files (NoMemory Recover) new = HasBegun words old files new
-Leaves words old files (FolderFault Unchanged) new = new ≡ old
-Leaves words old files (FolderFault Either) new = ⊥
-Leaves words old files (NoMemory Unchanged) new = new ≡ old
-Leaves words old files (NoMemory Either) new = ⊥
-Leaves words old files NotBuilt new = new ≡ old
-Leaves words old files Usage new = new ≡ old
-Leaves words old files (SourceRefused folder why) new = new ≡ old
-Leaves words old files (Unknown word) new = new ≡ old
-Leaves words old files (Limit what most) new = new ≡ old
-Leaves words old files SourceFault new = new ≡ old
-Leaves words old files (SinkFault None) new = new ≡ old
+LeavesAt words old files (AtFolderFault Recover) new = IsKeptElsewhere words old files new
+LeavesAt words old files (AtFolderFault Either) new = ⊥
+LeavesAt words old files (AtMemoryFault Unchanged) new = new ≡ old
+LeavesAt words old files (AtMemoryFault Recover) new = HasBegun words old files new
+LeavesAt words old files (AtMemoryFault Either) new = ⊥
+LeavesAt words old files (AtSinkFault None) new = new ≡ old
+LeavesAt words old files (AtSinkFault (Some number)) new = HasInstalled words old files new
+
+abbrev pub Leaves : List (List ℕ) → Map → Files → Status → Map → Type 0
+Leaves words old files status new = LeavesAt words old files (end_of status) new

@@ -13,3 +13,4 @@ pub mod Performs
 pub mod Refuses
 pub mod Causes
 pub mod Durable
+pub mod Ends

@@ -7,7 +7,7 @@ use Rattle.folder_core.specs.declared.node.After.TheVariants.{Unchanged, Recover
 use Rattle.director_words.specs.Lines.{plan_line_of, add_line_of, done_line_of}
 use Rattle.director_words.specs.Status.{short_line_of, lines_of}
 use Rattle.director_words.specs.declared.status.Status.{Status}
-use Rattle.director_words.specs.declared.status.Status.TheVariants.{Done, NotBuilt, Usage, SourceRefused, Unknown, FolderFault, SourceFault, SinkFault, Limit, NoMemory}
+use Rattle.director_core.specs.Ends.{End, AtCommit, AtRefusal, AtFolderFault, AtMemoryFault, AtSinkFault, end_of}
 use Rattle.director_core.specs.Answer.{Installs, IsAnswer}
 
 -- front is the whole, or as much of it as was written
@@ -46,30 +46,25 @@ abbrev pub IsPlanAndFault : (SinkFailed : Type 0) → List (List ℕ) → Map �
 IsPlanAndFault SinkFailed words m files status lines =
     (plan fault : List ℕ) × IsPlan words m files plan × IsFaultPrinted SinkFailed status fault × (lines ≡ plan ++ fault)
 
--- what is printed with each answer
-abbrev pub Prints : (SinkFailed : Type 0) → List (List ℕ) → Map → Files → Status → List ℕ → Type 0
-Prints SinkFailed words m files Done lines =
+-- what is printed at each end
+abbrev pub PrintsAt : (SinkFailed : Type 0) → List (List ℕ) → Map → Files → Status → End → List ℕ → Type 0
+PrintsAt SinkFailed words m files status AtCommit lines =
     (profile : List ℕ) × (unit : Unit) × Installs words m files profile unit
     × (lines ≡ plan_lines profile unit ++ done_line_of profile 1)
-Prints SinkFailed words m files NotBuilt lines = lines ≡ refusal_lines NotBuilt
-Prints SinkFailed words m files Usage lines = lines ≡ refusal_lines Usage
-Prints SinkFailed words m files (SourceRefused folder why) lines = lines ≡ refusal_lines (SourceRefused folder why)
-Prints SinkFailed words m files (Unknown word) lines = lines ≡ refusal_lines (Unknown word)
-Prints SinkFailed words m files (Limit what most) lines = lines ≡ refusal_lines (Limit what most)
-Prints SinkFailed words m files SourceFault lines = lines ≡ refusal_lines SourceFault
-Prints SinkFailed words m files (FolderFault Unchanged) lines = IsFaultPrinted SinkFailed (FolderFault Unchanged) lines
-Prints SinkFailed words m files (FolderFault Recover) lines =
-    IsPlanAndFault SinkFailed words m files (FolderFault Recover) lines
-Prints SinkFailed words m files (FolderFault Either) lines = ⊥
+PrintsAt SinkFailed words m files status (AtRefusal reason wording) lines = lines ≡ refusal_lines status
+PrintsAt SinkFailed words m files status (AtFolderFault Unchanged) lines = IsFaultPrinted SinkFailed status lines
+PrintsAt SinkFailed words m files status (AtFolderFault Recover) lines = IsPlanAndFault SinkFailed words m files status lines
+PrintsAt SinkFailed words m files status (AtFolderFault Either) lines = ⊥
 -- there was no memory before the plan, or after it
-Prints SinkFailed words m files (NoMemory Unchanged) lines =
-    IsFaultPrinted SinkFailed (NoMemory Unchanged) lines
-    ⊎ IsPlanAndFault SinkFailed words m files (NoMemory Unchanged) lines
-Prints SinkFailed words m files (NoMemory Recover) lines =
-    IsPlanAndFault SinkFailed words m files (NoMemory Recover) lines
-Prints SinkFailed words m files (NoMemory Either) lines = ⊥
+PrintsAt SinkFailed words m files status (AtMemoryFault Unchanged) lines =
+    IsFaultPrinted SinkFailed status lines ⊎ IsPlanAndFault SinkFailed words m files status lines
+PrintsAt SinkFailed words m files status (AtMemoryFault Recover) lines = IsPlanAndFault SinkFailed words m files status lines
+PrintsAt SinkFailed words m files status (AtMemoryFault Either) lines = ⊥
 -- a front of the lines of the answer that the sink cut short
-Prints SinkFailed words m files (SinkFault None) lines =
-    ((status : Status) × IsAnswer words m files status × IsFront lines (refusal_lines status))
+PrintsAt SinkFailed words m files status (AtSinkFault None) lines =
+    ((answer : Status) × IsAnswer words m files answer × IsFront lines (refusal_lines answer))
     ⊎ ((profile : List ℕ) × (unit : Unit) × Installs words m files profile unit × IsFront lines (plan_lines profile unit))
-Prints SinkFailed words m files (SinkFault (Some number)) lines = IsPlanAndFront words m files lines
+PrintsAt SinkFailed words m files status (AtSinkFault (Some number)) lines = IsPlanAndFront words m files lines
+
+abbrev pub Prints : (SinkFailed : Type 0) → List (List ℕ) → Map → Files → Status → List ℕ → Type 0
+Prints SinkFailed words m files status lines = PrintsAt SinkFailed words m files status (end_of status) lines

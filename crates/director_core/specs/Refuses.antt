@@ -2,7 +2,8 @@
 use Rattle.std.specs.Prelude.{◌≡◌, ℕ, List, [], None, ◌⊎◌}
 use Rattle.folder_core.specs.declared.node.After.TheVariants.{Unchanged}
 use Rattle.director_words.specs.declared.status.Status.{Status}
-use Rattle.director_words.specs.declared.status.Status.TheVariants.{Done, NotBuilt, Usage, SourceRefused, Unknown, FolderFault, SourceFault, SinkFault, Limit, NoMemory}
+use Rattle.director_words.specs.declared.status.Status.TheVariants.{SinkFault, NoMemory}
+use Rattle.director_core.specs.Ends.{Fixed, MadeUp, End, AtCommit, AtRefusal, AtFolderFault, AtMemoryFault, AtSinkFault, end_of}
 use Rattle.director_core.specs.Printed.{IsFront, IsFaultPrinted, refusal_lines}
 
 -- As it is, or as a fault of the sink.
@@ -14,17 +15,16 @@ abbrev pub EndsWithMemory : Status → Status → Type 0 → Type 0
 EndsWithMemory status result SinkFailed = EndsOrFails status result SinkFailed ⊎ (result ≡ NoMemory Unchanged)
 
 -- A fault and want of memory stay what they are, whether their line is written or not.
+abbrev pub EndsAt : End → Status → Status → Type 0 → Type 0
+EndsAt AtCommit status result SinkFailed = result ≡ status
+EndsAt (AtRefusal reason Fixed) status result SinkFailed = EndsOrFails status result SinkFailed
+EndsAt (AtRefusal reason MadeUp) status result SinkFailed = EndsWithMemory status result SinkFailed
+EndsAt (AtFolderFault left) status result SinkFailed = result ≡ status
+EndsAt (AtMemoryFault left) status result SinkFailed = result ≡ status
+EndsAt (AtSinkFault committed) status result SinkFailed = result ≡ status
+
 abbrev pub Ends : Status → Status → Type 0 → Type 0
-Ends Done result SinkFailed = result ≡ Done
-Ends NotBuilt result SinkFailed = EndsOrFails NotBuilt result SinkFailed
-Ends Usage result SinkFailed = EndsOrFails Usage result SinkFailed
-Ends (SourceRefused folder why) result SinkFailed = EndsWithMemory (SourceRefused folder why) result SinkFailed
-Ends (Unknown word) result SinkFailed = EndsWithMemory (Unknown word) result SinkFailed
-Ends (Limit what most) result SinkFailed = EndsWithMemory (Limit what most) result SinkFailed
-Ends (FolderFault after) result SinkFailed = result ≡ FolderFault after
-Ends SourceFault result SinkFailed = EndsOrFails SourceFault result SinkFailed
-Ends (SinkFault committed) result SinkFailed = result ≡ SinkFault committed
-Ends (NoMemory after) result SinkFailed = result ≡ NoMemory after
+Ends status result SinkFailed = EndsAt (end_of status) status result SinkFailed
 
 -- All the lines are written, or a front of them where the sink failed.
 abbrev pub WritesOrFails : Status → Status → List ℕ → Type 0
@@ -36,14 +36,13 @@ abbrev pub WritesWithMemory : (SinkFailed : Type 0) → Status → Status → Li
 WritesWithMemory SinkFailed status result lines =
     WritesOrFails status result lines ⊎ ((result ≡ NoMemory Unchanged) × IsFaultPrinted SinkFailed (NoMemory Unchanged) lines)
 
+abbrev pub WritesRefusalAt : (SinkFailed : Type 0) → End → Status → Status → List ℕ → Type 0
+WritesRefusalAt SinkFailed AtCommit status result lines = lines ≡ []
+WritesRefusalAt SinkFailed (AtRefusal reason Fixed) status result lines = WritesOrFails status result lines
+WritesRefusalAt SinkFailed (AtRefusal reason MadeUp) status result lines = WritesWithMemory SinkFailed status result lines
+WritesRefusalAt SinkFailed (AtFolderFault left) status result lines = IsFaultPrinted SinkFailed status lines
+WritesRefusalAt SinkFailed (AtMemoryFault left) status result lines = IsFaultPrinted SinkFailed status lines
+WritesRefusalAt SinkFailed (AtSinkFault committed) status result lines = lines ≡ []
+
 abbrev pub WritesRefusal : (SinkFailed : Type 0) → Status → Status → List ℕ → Type 0
-WritesRefusal SinkFailed Done result lines = lines ≡ []
-WritesRefusal SinkFailed NotBuilt result lines = WritesOrFails NotBuilt result lines
-WritesRefusal SinkFailed Usage result lines = WritesOrFails Usage result lines
-WritesRefusal SinkFailed (SourceRefused folder why) result lines = WritesWithMemory SinkFailed (SourceRefused folder why) result lines
-WritesRefusal SinkFailed (Unknown word) result lines = WritesWithMemory SinkFailed (Unknown word) result lines
-WritesRefusal SinkFailed (Limit what most) result lines = WritesWithMemory SinkFailed (Limit what most) result lines
-WritesRefusal SinkFailed (FolderFault after) result lines = IsFaultPrinted SinkFailed (FolderFault after) lines
-WritesRefusal SinkFailed SourceFault result lines = WritesOrFails SourceFault result lines
-WritesRefusal SinkFailed (SinkFault committed) result lines = lines ≡ []
-WritesRefusal SinkFailed (NoMemory after) result lines = IsFaultPrinted SinkFailed (NoMemory after) lines
+WritesRefusal SinkFailed status result lines = WritesRefusalAt SinkFailed (end_of status) status result lines

@@ -2,21 +2,21 @@
 use Rattle.std.specs.Prelude.{⊤}
 use Rattle.folder_core.specs.declared.node.After.TheVariants.{Unchanged, Recover, Either}
 use Rattle.director_words.specs.declared.status.Status.{Status}
-use Rattle.director_words.specs.declared.status.Status.TheVariants.{Done, NotBuilt, Usage, SourceRefused, Unknown, FolderFault, SourceFault, SinkFault, Limit, NoMemory}
+use Rattle.director_core.specs.Ends.{NoRequest, OwnCause, FailedSource, End, AtCommit, AtRefusal, AtFolderFault, AtMemoryFault, AtSinkFault, end_of}
 
 -- nothing has been written or changed
+abbrev pub StopsAt : (Wrong FolderFailed SourceFailed Given : Type 0) → End → Type 0
+StopsAt Wrong FolderFailed SourceFailed Given AtCommit = ⊥
+StopsAt Wrong FolderFailed SourceFailed Given (AtRefusal NoRequest wording) = Wrong
+StopsAt Wrong FolderFailed SourceFailed Given (AtRefusal OwnCause wording) = Given
+StopsAt Wrong FolderFailed SourceFailed Given (AtRefusal FailedSource wording) = SourceFailed
+StopsAt Wrong FolderFailed SourceFailed Given (AtFolderFault Unchanged) = FolderFailed
+StopsAt Wrong FolderFailed SourceFailed Given (AtFolderFault Recover) = ⊥
+StopsAt Wrong FolderFailed SourceFailed Given (AtFolderFault Either) = ⊥
+StopsAt Wrong FolderFailed SourceFailed Given (AtMemoryFault Unchanged) = ⊤
+StopsAt Wrong FolderFailed SourceFailed Given (AtMemoryFault Recover) = ⊥
+StopsAt Wrong FolderFailed SourceFailed Given (AtMemoryFault Either) = ⊥
+StopsAt Wrong FolderFailed SourceFailed Given (AtSinkFault committed) = ⊥
+
 abbrev pub Stops : (Wrong FolderFailed SourceFailed : Type 0) → (Status → Type 0) → Status → Type 0
-Stops Wrong FolderFailed SourceFailed Gives Done = ⊥
-Stops Wrong FolderFailed SourceFailed Gives NotBuilt = Gives NotBuilt
-Stops Wrong FolderFailed SourceFailed Gives Usage = Wrong
-Stops Wrong FolderFailed SourceFailed Gives (SourceRefused folder why) = Gives (SourceRefused folder why)
-Stops Wrong FolderFailed SourceFailed Gives (Unknown word) = Gives (Unknown word)
-Stops Wrong FolderFailed SourceFailed Gives (FolderFault Unchanged) = FolderFailed
-Stops Wrong FolderFailed SourceFailed Gives (FolderFault Recover) = ⊥
-Stops Wrong FolderFailed SourceFailed Gives (FolderFault Either) = ⊥
-Stops Wrong FolderFailed SourceFailed Gives SourceFault = SourceFailed
-Stops Wrong FolderFailed SourceFailed Gives (SinkFault committed) = ⊥
-Stops Wrong FolderFailed SourceFailed Gives (Limit what most) = Gives (Limit what most)
-Stops Wrong FolderFailed SourceFailed Gives (NoMemory Unchanged) = ⊤
-Stops Wrong FolderFailed SourceFailed Gives (NoMemory Recover) = ⊥
-Stops Wrong FolderFailed SourceFailed Gives (NoMemory Either) = ⊥
+Stops Wrong FolderFailed SourceFailed Gives status = StopsAt Wrong FolderFailed SourceFailed (Gives status) (end_of status)

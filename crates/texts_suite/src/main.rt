@@ -1,4 +1,4 @@
-//! Answers rows about versions and ranges, tables of cases, properties texts and filters, one line a row.
+//! Answers rows about versions and ranges, tables of cases, properties texts, filters and digest files, one line a row.
 //!
 //! A row's first two words name the question, and the others are what it is asked of. A line that is empty or begins
 //! with `#` stands in the output as it is.
@@ -6,6 +6,7 @@
 
 mod answer;
 mod bytes;
+mod digests;
 mod environments;
 mod fields;
 mod filters;
@@ -60,6 +61,7 @@ fn reply(alloc: Global, desk: &mut Desk, row: &Row, answer: &mut Answer) -> Resu
         "list" => lists::reply(alloc, row, answer),
         "table" => tables::reply(row, answer),
         "props" => properties::reply(alloc, row, answer),
+        "digests" => digests::reply(alloc, row, answer),
         "filter" => filters::reply(alloc, desk.env(), row, answer),
         "env" => desk.reply(alloc, row, answer),
         _ => answer.word("no question"),

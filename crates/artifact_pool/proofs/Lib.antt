@@ -1,0 +1,8 @@
+mod Bytes
+mod Canonical
+mod Firsts
+mod Names
+mod Noting
+mod Parts
+mod Reading
+mod Sayings

@@ -1,0 +1,4 @@
+pub mod ArtifactPath
+pub mod DigestLine
+pub mod DigestText
+pub mod Noting

@@ -101,6 +101,7 @@ fn ask_store(
 ) -> Result<(), RowFault> {
     match row.word(0) {
         "keep" => store::ask_keep(alloc, folder, row, line),
+        "keep-all" => store::ask_keep_all(alloc, folder, row, line),
         "back" => store::ask_back(alloc, folder, row, line),
         "counts" => store::ask_counts(alloc, folder, row, line),
         "kept" => store::ask_kept(alloc, folder, row, line),

@@ -4,6 +4,7 @@ ghost use Rattle.std.specs.Prelude.{◌≡◌, ◌≢◌, ◌≤◌, [], true, I
 ghost use Rattle.std.specs.Option.{option_copied};
 ghost use Rattle.folder_core.specs.Node.{IsNode, IsSmallAt};
 ghost use Rattle.backup_store.specs.Places.{IsOutside};
+ghost use Rattle.backup_store.specs.Turns.{AreTouches, IsTouch};
 ghost use Rattle.install_journal.specs.Open.{IsReady, IsSpoiled, left_of};
 
 use crate::quiet::Quiet;
@@ -68,6 +69,35 @@ impl Open {
                 self.ready = true;
                 self.left = self.left.saturating_add(1);
                 Some(Ok(number))
+            }
+            Err(TouchFault::TooManyEntries) => Some(Err(TouchFault::TooManyEntries)),
+            Err(TouchFault::Failed) => {
+                self.failed = true;
+                Some(Err(TouchFault::Failed))
+            }
+            Err(TouchFault::NoMemory) => {
+                self.failed = true;
+                Some(Err(TouchFault::NoMemory))
+            }
+        }
+    }
+
+    /// None where one of them mayn't be touched.
+    pub fn touch_all(
+        &mut self,
+        alloc: Global,
+        folder: &mut Quiet,
+        touches: &[Touch],
+    ) -> Option<Result<(), TouchFault>> {
+        if !self.ready || !are_touches(touches) {
+            return None;
+        }
+        self.ready = false;
+        match self.change.touch_all(alloc, folder, touches) {
+            Ok(()) => {
+                self.ready = true;
+                self.left = self.left.saturating_add(touches.len() as u32);
+                Some(Ok(()))
             }
             Err(TouchFault::TooManyEntries) => Some(Err(TouchFault::TooManyEntries)),
             Err(TouchFault::Failed) => {
@@ -200,6 +230,19 @@ fn may_touch(folder: &Quiet, touch: &Touch) -> bool
     ensures small { IsTrue result → IfSome touch.now.node (IsSmallAt touch.now.path) }
 {
     may_stand(touch) && is_outside(&touch.path) && folder.inner.can_set(&touch.path)
+}
+
+/// Whether each path may be touched with its node. Whether it can be set when its turn comes is for the folder to refuse.
+pub fn are_touches(touches: &[Touch]) -> bool
+    ensures { IsTrue result → AreTouches touches.now }
+{
+    touches.iter().all(|touch| is_touch(touch))
+}
+
+fn is_touch(touch: &Touch) -> bool
+    ensures { IsTrue result → IsTouch touch.now }
+{
+    may_stand(touch) && is_outside(&touch.path)
 }
 
 fn may_stand(touch: &Touch) -> bool

@@ -147,6 +147,7 @@ fn call(
 ) -> Result<(), NoMemory> {
     match step {
         Step::Touch(touch) => say_touch(alloc, folder, open, touch, line),
+        Step::All(touches) => say_all(alloc, folder, open, touches.items(), line),
         Step::Undo(number) => say_undo(alloc, folder, open, *number, line),
         Step::Look(path) => say_look(line, open.look(alloc, folder, path)),
         Step::Kids(path) => say_kids(line, open.kids(alloc, folder, path)),
@@ -167,9 +168,29 @@ fn say_touch(
             say(line, "")?;
             push_number(line, number.0)
         }
-        Some(Err(TouchFault::Failed)) => say(line, "failed"),
-        Some(Err(TouchFault::TooManyEntries)) => say(line, "too-many"),
-        Some(Err(TouchFault::NoMemory)) => say(line, "no-memory"),
+        Some(Err(fault)) => say(line, word_of_touch(fault)),
+    }
+}
+
+fn word_of_touch(fault: TouchFault) -> &'static str {
+    match fault {
+        TouchFault::Failed => "failed",
+        TouchFault::TooManyEntries => "too-many",
+        TouchFault::NoMemory => "no-memory",
+    }
+}
+
+fn say_all(
+    alloc: Global,
+    folder: &mut Quiet,
+    open: &mut Open,
+    touches: &[Touch],
+    line: &mut Vec<u8>,
+) -> Result<(), NoMemory> {
+    match open.touch_all(alloc, folder, touches) {
+        None => say(line, "refused"),
+        Some(Ok(())) => say(line, "all"),
+        Some(Err(fault)) => say(line, word_of_touch(fault)),
     }
 }
 

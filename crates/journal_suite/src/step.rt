@@ -1,6 +1,6 @@
 //! The steps of a script, which is the rest of a row.
 //!
-//! `begin`, `PATH=NODE` for a touch, `undo:K`, `look:PATH`, `kids:PATH`, `finish`, `abandon`, `leave`, `recover`, `gate`,
+//! `begin`, `PATH=NODE` for a touch, `all:PATH=NODE;PATH=NODE` for a list of touches, `undo:K`, `look:PATH`, `kids:PATH`, `finish`, `abandon`, `leave`, `recover`, `gate`,
 //! `sync`, `fuse:PASSES`, `fail:CALL`, and `put:PATH=NODE` for what another puts there.
 
 use folder_core::{Path, Touch};
@@ -13,6 +13,7 @@ use suite_row::Row;
 pub enum Step {
     Begin,
     Touch(Touch),
+    All(List<Touch>),
     Put(Touch),
     Undo(u32),
     Look(Path),
@@ -54,6 +55,7 @@ fn read_step(alloc: Global, field: &Text) -> Result<Step, RowFault> {
 
 fn read_verb(alloc: Global, verb: &str, rest: &str) -> Result<Step, RowFault> {
     match verb {
+        "all" => Ok(Step::All(touches_of(alloc, rest)?)),
         "put" => Ok(Step::Put(touch_of(alloc, rest)?)),
         "undo" => Ok(Step::Undo(small_of(rest)?)),
         "look" => Ok(Step::Look(path_of(alloc, rest)?)),
@@ -72,6 +74,17 @@ fn path_of(alloc: Global, spelling: &str) -> Result<Path, RowFault> {
 fn touch_of(alloc: Global, spelling: &str) -> Result<Touch, RowFault> {
     let text = Text::from_str(alloc, spelling)?;
     read_touch(alloc, &text)
+}
+
+/// Touches with a `;` between them, or none.
+fn touches_of(alloc: Global, spelling: &str) -> Result<List<Touch>, RowFault> {
+    let mut touches = List::new(alloc);
+    for piece in spelling.split(';') {
+        if !piece.is_empty() {
+            touches.push(touch_of(alloc, piece)?)?;
+        }
+    }
+    Ok(touches)
 }
 
 fn number_of(digits: &str) -> Result<u64, RowFault> {

@@ -2,13 +2,13 @@
 
 use crate::entries::push_entry;
 use crate::line::say;
-use crate::open::is_outside;
+use crate::open::{are_touches, is_outside};
 use crate::quiet::Quiet;
 use crate::script::say_store_fault;
-use backup_store::{EntryNumber, StoreFault, counts, keep, put_back, read_kept};
-use folder_core::Path;
-use folder_rows::{RowFault, read_path, word_of};
-use osgi_version::NoMemory;
+use backup_store::{EntryNumber, StoreFault, counts, keep, keep_all, put_back, read_kept};
+use folder_core::{Path, Touch};
+use folder_rows::{RowFault, read_path, read_touch, word_of};
+use osgi_version::{List, NoMemory};
 use std::alloc::Global;
 use suite_row::Row;
 
@@ -42,6 +42,36 @@ fn say_kept(
         return say(line, "refused");
     }
     let kept = keep(alloc, folder, number, path);
+    say_outcome(line, &kept, "kept")
+}
+
+/// `keep-all NUMBER PATH=NODE ..`: the entries of these touches, from this number on.
+pub fn ask_keep_all(
+    alloc: Global,
+    folder: &mut Quiet,
+    row: &Row,
+    line: &mut Vec<u8>,
+) -> Result<(), RowFault> {
+    let first = number_of(row)?;
+    let mut touches = List::new(alloc);
+    for place in 2..row.len() {
+        touches.push(read_touch(alloc, row.field(place))?)?;
+    }
+    Ok(say_all_kept(alloc, folder, first, touches.items(), line)?)
+}
+
+fn say_all_kept(
+    alloc: Global,
+    folder: &mut Quiet,
+    first: EntryNumber,
+    touches: &[Touch],
+    line: &mut Vec<u8>,
+) -> Result<(), NoMemory> {
+    let in_range = touches.len() <= (u32::MAX - first.0) as usize;
+    if !in_range || !are_touches(touches) {
+        return say(line, "refused");
+    }
+    let kept = keep_all(alloc, folder, first, touches);
     say_outcome(line, &kept, "kept")
 }
 

@@ -1,4 +1,10 @@
 mod Ascii
+mod Drafts
+mod Firsts
+mod Outcomes
+mod Puts
+mod Runs
+mod Takes
 pub mod Forms
 pub mod Rebuilt
 pub mod Walks

@@ -25,17 +25,17 @@ whole (p ∷ ps) forms texts =
     All-cons IsWhole p ps (record { form = All-head IsPart p ps forms; utf8 = All-head T p ps texts; spelling = refl })
     (whole ps (All-tail IsPart p ps forms) (All-tail T p ps texts))
 
-front : {X : Type 0} (P : X → Type 0) (xs ys : List X) → All P (xs ++ ys) → All P xs
+pub front : {X : Type 0} (P : X → Type 0) (xs ys : List X) → All P (xs ++ ys) → All P xs
 front P [] ys all = All-nil P
 front P (x ∷ xs) ys all = All-cons P x xs (All-head P x (xs ++ ys) all) (front P xs ys (All-tail P x (xs ++ ys) all))
 
 pub whole_body : (u : Package) → IsUnit u → AreTexts u → All IsWhole (body_parts u)
 whole_body u is texts = whole (body_parts u) (in_form u is) (front (λ p. All IsUtf8 (part_texts p)) (body_parts u) (part.End ∷ []) texts)
 
-same_line : (p q : Part) → IsWhole p → IsWhole q → part_line p ≡ part_line q → p ≡ q
+pub same_line : (p q : Part) → IsWhole p → IsWhole q → part_line p ≡ part_line q → p ≡ q
 same_line p q wp wq e = one_part (part_line q) p q (record { form = wp.form; utf8 = wp.utf8; spelling = e }) wq
 
-end_whole : IsWhole part.End
+pub end_whole : IsWhole part.End
 end_whole = record { form = tt; utf8 = All-nil IsUtf8; spelling = refl }
 
 pub same_lines : (ps qs : List Part) (r s : List (List ℕ)) → All NotEnd ps → All NotEnd qs → All IsWhole ps → All IsWhole qs
@@ -55,7 +55,7 @@ same_lines (p ∷ ps) (q ∷ qs) r s np nq wp wq e =
     λ i. head i ∷ tail i
 
 -- Lines without LF, with LF behind each, are cut in one way.
-cut_once : (xs ys s t : List ℕ) → All (λ b. (b == 10) ≡ false) xs → All (λ b. (b == 10) ≡ false) ys → xs ++ 10 ∷ s ≡ ys ++ 10 ∷ t → (xs ≡ ys) × (s ≡ t)
+pub cut_once : (xs ys s t : List ℕ) → All (λ b. (b == 10) ≡ false) xs → All (λ b. (b == 10) ≡ false) ys → xs ++ 10 ∷ s ≡ ys ++ 10 ∷ t → (xs ≡ ys) × (s ≡ t)
 cut_once xs ys s t nx ny e =
     let cut : xs ∷ slice_split (λ b. b == 10) s ≡ ys ∷ slice_split (λ b. b == 10) t =
     sym (slice_split_at (λ b. b == 10) xs 10 s nx refl) ∙ (ap (slice_split (λ b. b == 10)) e ∙ slice_split_at (λ b. b == 10) ys 10 t ny refl) in

@@ -2,6 +2,7 @@
 
 use crate::copies::{push_copies, push_judgement, push_note};
 use crate::description::{push_described, push_many};
+use crate::lines::push_taken;
 use crate::looking::{push_applies, push_equal, push_matches};
 use crate::names::{push_id, push_new, push_profile};
 use crate::push::push_word;
@@ -31,6 +32,7 @@ fn push_answer(answer: &mut Vec<u8>, alloc: Global, line: &str) -> Result<(), No
 fn push_row(answer: &mut Vec<u8>, alloc: Global, row: &Row) -> Result<(), NoMemory> {
     match row.word(0) {
         "inf" => push_described(answer, alloc, row),
+        "lines" => push_taken(answer, alloc, row),
         "many" => push_many(answer, alloc, row),
         "id" => push_id(answer, row),
         "profile" => push_profile(answer, row),

@@ -5,6 +5,7 @@
 mod answer;
 mod copies;
 mod description;
+mod lines;
 mod looking;
 mod names;
 mod push;

@@ -1,11 +1,12 @@
-//! Holds the planner against rows of worked answers: a row of standard input adds units or asks for a plan, and its line
-//! of standard output answers.
+//! Holds the planner against rows of worked answers: a row of standard input adds units or asks for a plan, and its lines
+//! of standard output answer.
 #![tactic(auto)]
 
 mod judging;
 mod planning;
 mod push;
 mod question;
+mod reasons;
 mod scene;
 
 use scene::Scene;

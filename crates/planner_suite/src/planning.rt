@@ -41,7 +41,7 @@ fn push_left(line: &mut Vec<u8>, left: &[LeftOut]) -> Result<(), NoMemory> {
     Ok(())
 }
 
-fn push_fault(line: &mut Vec<u8>, fault: PlanFault) -> Result<(), NoMemory> {
+pub(crate) fn push_fault(line: &mut Vec<u8>, fault: PlanFault) -> Result<(), NoMemory> {
     match fault {
         PlanFault::SliceTooLarge => push_word(line, "slice too large"),
         PlanFault::ProblemTooLarge => push_word(line, "problem too large"),

@@ -2,6 +2,7 @@
 
 use crate::planning::{push_fitting, push_lines, push_plan};
 use crate::push::push_word;
+use crate::reasons::push_why;
 use inf_reader::units_of;
 use ldap_filter::{Env, EnvFault};
 use osgi_version::{List, NoMemory, Text};
@@ -59,6 +60,7 @@ impl Scene {
             "plan" => push_plan(answer, alloc, self, row),
             "lines" => push_lines(answer, alloc, self, row),
             "fits" => push_fitting(answer, alloc, self, row),
+            "why" => push_why(answer, alloc, self, row),
             _ => push_word(answer, "no question"),
         }
     }

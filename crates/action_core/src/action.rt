@@ -27,7 +27,7 @@ pub trait Action: Drop {
         ensures { result ≡ (action_seen self.now).kind };
 
     /// What a call does to a folder that the shape stands for: the steps, in order, or the refusal. It takes time linear in
-    /// the shape and the steps.
+    /// the shape and the steps, but where a kind says more of itself.
     fn begin(&mut self, call: &Call, shape: &Shape) -> Result<List<Step>, ActionFault>
         requires kind { call.now.kind ≡ (action_seen self.old).kind }
         requires call { IsCall call.now }

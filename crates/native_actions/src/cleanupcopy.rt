@@ -13,6 +13,7 @@ use osgi_version::{List, NoMemory, Twin};
 use std::alloc::Global;
 
 /// Takes away what a copy of the same unit, source and target noted, but for directories that hold something else.
+/// A path that goes moves up those that stand behind it: at worst this costs the square of what stands below the target.
 pub type CleanUpCopy = TableAction<CleanUpCopyRow>;
 
 /// `cleanupcopy(source,target)`.
